@@ -1,0 +1,14 @@
+use Prim.Native.Nat.{ℕ, _/_, _%_, _^_, _≤_}
+use mathlib.Core.Path.{_≡_, sym, ap, _∙_}
+use native.Mathlib.Omega.{arith}
+use lib.ListN.{length, getD}
+use lib.Dec.{eqb, ltb}
+use Rattle.std.proofs.shelf.Lists.{getD-past}
+use Rattle.std.proofs.shelf.Tests.{le-ltb}
+use Rattle.blocks.proofs.Packed.{bit-past}
+use Rattle.blocks.proofs.map.bit.Needs as need
+
+pub returns-else-n-lt512 : need.returns-else-n-lt512
+returns-else-n-lt512 c =
+    let past : 512 ≤ c .args .n = omega arith in
+    le-ltb (c .args .n) 512 past ∙ sym (bit-past (c .args .map .now) (c .told-map) (c .args .n) past)

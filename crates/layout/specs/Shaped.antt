@@ -1,0 +1,6 @@
+-- The plain numbers of a geometry.
+use Rattle.layout.specs.declared.types.Geometry.{Geometry}
+use Rattle.layout.specs.Shapes.{Shape}
+
+abbrev pub shape : Geometry → Shape
+shape g = record { blocks = g .blocks; inodes = g .inodes; directory = g .directory }

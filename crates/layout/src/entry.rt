@@ -1,0 +1,55 @@
+// A directory entry, and its 16 bytes.
+ghost use mathlib.Core.Path.{_≡_};
+ghost use mathlib.Core.Bool.{true, false};
+ghost use lib.ListN.{length, getD};
+ghost use Rattle.std.specs.Options.{Cases as BySome};
+ghost use Rattle.layout.specs.Names.{well-formed};
+ghost use Rattle.layout.specs.Entries.{target, title as titleIn, entry-of};
+use crate::types::Name;
+use blocks::Quarter;
+use blocks::high;
+use blocks::low;
+use blocks::word;
+
+// An entry leads a name to an inode.
+#[derive(Clone, Copy)]
+pub struct Entry {
+    pub inode: u16,
+    pub name: Name,
+}
+
+// A copy of the 14 bytes of a slot's name.
+pub fn title(slot: &Quarter) -> [u8; 14]
+    ensures { λ r. ⌜ r ≡ titleIn (now (slot .entry)) ⌝ }
+{
+    let mut bytes = [0u8; 14];
+    bytes.copy_from_slice(&slot[2..16]);
+    bytes
+}
+
+impl Entry {
+    pub fn bytes(&self) -> Quarter
+        ensures value { λ r. ⌜ r ≡ entry-of (now (self .entry) .inode) (now (self .entry) .name .bytes) ⌝ }
+        ensures back { λ r. ⌜ (target r ≡ now (self .entry) .inode) × (titleIn r ≡ now (self .entry) .name .bytes) ⌝ }
+    {
+        let mut out = [0u8; 16];
+        out[0] = low(self.inode);
+        out[1] = high(self.inode);
+        out[2..16].copy_from_slice(&self.name.bytes);
+        out
+    }
+
+    // The entry that 16 bytes are, if their name is well formed.
+    pub fn read(bytes: &Quarter) -> Option<Entry>
+        ensures { λ r. ⌜ BySome r (well-formed (titleIn (now (bytes .entry))) ≡ false)
+            (λ e. (e .inode ≡ target (now (bytes .entry))) × (e .name .bytes ≡ titleIn (now (bytes .entry))) × (entry-of (e .inode) (e .name .bytes) ≡ now (bytes .entry))) ⌝ }
+    {
+        match Name::read(&title(bytes)) {
+            Some(name) => Some(Entry {
+                inode: word(bytes, 0),
+                name,
+            }),
+            None => None,
+        }
+    }
+}

@@ -1,0 +1,12 @@
+pub mod Cleared
+pub mod Alone
+pub mod HeadLaws
+pub mod MapLaws
+pub mod InodeLaws
+pub mod PointerLaws
+pub mod SlotLaws
+pub mod Judged
+pub mod Tallies
+pub mod PreparedLaws
+pub mod Titled
+pub mod Led

@@ -1,0 +1,4 @@
+pub mod Media
+pub mod Faults
+pub mod Verdict
+pub mod Sound
