@@ -102,6 +102,10 @@ pub packed-same : (p q : ℕ → Bool) → ((n : ℕ) → n < 512 → p n ≡ q 
 unfolding packed
 packed-same p q e = table-same 64 (octet p) (octet q) 0 (λ k h. octet-same p q k (λ j l. e (8 * k + j) (omega arith)))
 
+-- the map of a table of marks
+pub packed-table : (marks : List Bool) (p : ℕ → Bool) → marks ≡ table 512 p → packed (λ n. getD marks n false) ≡ packed p
+packed-table marks p e = packed-same _ p (λ n h. ap (λ m. getD m n false) e ∙ getD-table 512 p n false h)
+
 -- a block of bytes is the map of its own marks
 module _ (block : Block) (small : (k : ℕ) → getD block k 0 < 256) where
   bit-digit : (k j : ℕ) → j < 8 → digit (bit block (8 * k + j)) ≡ getD block k 0 / 2 ^ j % 2

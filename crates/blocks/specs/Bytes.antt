@@ -2,9 +2,9 @@
 use Prim.Native.Nat.{ℕ, _+_, _*_, _/_, _%_}
 use mathlib.Core.Bool.{Bool}
 use mathlib.Core.List.{List, [], _∷_}
-use lib.ListN.{getD}
+use lib.ListN.{getD, take, drop}
 use lib.Dec.{eqb}
-use Rattle.finite.specs.Finite.{every, table}
+use Rattle.finite.specs.Finite.{every}
 
 -- a block is a list of 64 bytes
 abbrev pub Block : Type 0
@@ -25,6 +25,10 @@ high n = n / 256
 abbrev pub zeros : ℕ → List ℕ → Bool
 zeros n bytes = every n (λ k. eqb (getD bytes k 0) 0)
 
+-- the n bytes from a on
+abbrev pub part : List ℕ → ℕ → ℕ → List ℕ
+part bytes a n = take n (drop a bytes)
+
 -- a quarter of a block, 16 bytes: an inode or a slot
-unfoldable pub quarter : Block → ℕ → List ℕ
-quarter block k = table 16 (λ j. getD block (16 * k + j) 0)
+abbrev pub quarter : Block → ℕ → List ℕ
+quarter block k = part block (16 * k) 16

@@ -1,15 +1,15 @@
 -- Images of a card: block b is bytes 64 b to 64 b + 63.
-use Prim.Native.Nat.{ℕ, _+_, _*_, _/_, _%_}
+use Prim.Native.Nat.{ℕ, _*_, _/_, _%_}
 use mathlib.Core.Bool.{cond}
 use mathlib.Core.List.{List}
 use lib.ListN.{length, getD}
 use lib.Dec.{eqb, ltb}
 use Rattle.finite.specs.Finite.{table}
-use Rattle.blocks.specs.Bytes.{Block}
+use Rattle.blocks.specs.Bytes.{Block, part}
 
 -- block b of an image
-unfoldable pub image-block : List ℕ → ℕ → Block
-image-block image b = table 64 (λ k. getD image (64 * b + k) 0)
+abbrev pub image-block : List ℕ → ℕ → Block
+image-block image b = part image (64 * b) 64
 
 -- the first n blocks of an image
 unfoldable pub image-blocks : ℕ → List ℕ → List Block

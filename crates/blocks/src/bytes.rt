@@ -4,7 +4,7 @@ ghost use mathlib.Core.List.{List, [], _∷_};
 ghost use Prim.Native.Nat.{ℕ, _+_, _*_, _/_, _%_, _<_, _≤_};
 ghost use lib.ListN.{length, getD};
 ghost use lib.Dec.{eqb};
-ghost use Rattle.blocks.specs.Bytes.{word as wordOf, low as lowOf, high as highOf, zeros, quarter as quarterOf};
+ghost use Rattle.blocks.specs.Bytes.{word as wordOf, low as lowOf, high as highOf, zeros, part, quarter as quarterOf};
 use finite::Test;
 use finite::every;
 

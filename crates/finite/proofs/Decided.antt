@@ -10,7 +10,7 @@ use Rattle.std.specs.Options.{isSome}
 use Rattle.std.specs.Orderings.{Decides}
 use Rattle.std.specs.declared.option.Option.{Option}
 use Rattle.std.specs.declared.option.Option.the-variants.{Some, None}
-use Rattle.std.proofs.shelf.Tests.{cases-eq, cases-bool, and-parts, and-from, or-cases, or-parts, or-from, or-left, or-right, true≢false}
+use Rattle.std.proofs.shelf.Tests.{cases-eq, cases-bool, both-ways, and-parts, and-from, or-cases, or-parts, or-from, or-left, or-right, true≢false}
 use Rattle.finite.specs.Finite.{every, exists, digit, count, or-else, lowest}
 
 module _ (p : ℕ → Bool) where
@@ -27,9 +27,12 @@ module _ (p : ℕ → Bool) where
   every-from zero f = refl
   every-from (suc n) f = and-from (every n p) (p n) (every-from n (λ k h. f k (omega arith))) (f n (omega arith))
 
-  pub every-more : (n : ℕ) {all b : Bool} → all ≡ every n p → b ≡ p n → all && b ≡ every (n + 1) p
+  pub every-hit : (n : ℕ) → every n p ≡ true → p n ≡ true → every (n + 1) p ≡ true
   unfolding every
-  every-more n e g = rw add-one (λ j. e j && g j)
+  every-hit n e h = rw add-one (and-from (every n p) (p n) e h)
+
+  pub every-miss : (n k : ℕ) → p k ≡ false → k < n → every n p ≡ false
+  every-miss n k e h = elim (cases-bool (every n p)) [ inl t ↦ absurd (both-ways (p k) e (every-at n t k h)) | inr f ↦ f ]
 
   -- exists
   pub exists-at : (n : ℕ) → exists n p ≡ true → (k : ℕ) × (k < n) × (p k ≡ true)
@@ -62,9 +65,12 @@ module _ (p : ℕ → Bool) where
   none-exists zero f = refl
   none-exists (suc n) f = or-from (exists n p) (p n) (none-exists n (λ k h. f k (omega arith))) (f n (omega arith))
 
-  pub exists-more : (n : ℕ) {some b : Bool} → some ≡ exists n p → b ≡ p n → some || b ≡ exists (n + 1) p
+  pub exists-more : (n : ℕ) → exists (n + 1) p ≡ exists n p || p n
   unfolding exists
-  exists-more n e g = rw add-one (λ j. e j || g j)
+  exists-more n = rw add-one refl
+
+  pub exists-miss : (n : ℕ) → exists n p ≡ false → p n ≡ false → exists (n + 1) p ≡ false
+  exists-miss n e h = exists-more n ∙ or-from (exists n p) (p n) e h
 
   -- lowest
   pub lowest-none : (n : ℕ) → lowest n p ≡ None → (k : ℕ) → k < n → p k ≡ false

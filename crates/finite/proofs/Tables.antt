@@ -5,9 +5,9 @@ use mathlib.Core.Logic.{inl, inr}
 use mathlib.Core.List.{List}
 use native.Mathlib.Omega.{arith}
 use native.Mathlib.Nat.{zero-add}
-use lib.ListN.{length, getD, set, take, drop}
-use lib.Seq.{getD-set-same, getD-set-other, getD-take, getD-drop}
-use Rattle.std.proofs.shelf.Lists.{length-take-le, length-drop, length-set}
+use lib.ListN.{length, getD, set}
+use lib.Seq.{getD-set-same, getD-set-other}
+use Rattle.std.proofs.shelf.Lists.{length-set}
 use Rattle.std.proofs.shelf.Tests.{cases-eq}
 use Rattle.std.proofs.shelf.Counted.{length-map-counting, getD-map-counting, fill-by-all}
 use Rattle.finite.specs.Finite.{table}
@@ -45,10 +45,3 @@ module _ {A : Type 0} (n : ℕ) (f : ℕ → A) (d : A) (i : ℕ) (xs : List A) 
 
   pub filled-all : n ≤ i → xs ≡ table n f
   filled-all h = table-is n f xs d (filled .0) (λ k l. filled .1 k (omega arith))
-
--- a part of a list
-pub part-table : {A : Type 0} (xs : List A) (a n : ℕ) (d : A) → a + n ≤ length xs → take n (drop a xs) ≡ table n (λ k. getD xs (a + k) d)
-part-table xs a n d h =
-    table-is n (λ k. getD xs (a + k) d) (take n (drop a xs)) d
-    (length-take-le n (drop a xs) (simp length-drop (omega arith)))
-    (λ k l. getD-take n (drop a xs) k d l ∙ getD-drop a xs k d)

@@ -22,22 +22,24 @@ pub trait Test {
 pub fn every<T: Test>(t: &T) -> bool
     ensures { λ r. ⌜ r ≡ everyOf (T·Test .limit (now (t .entry))) (T·Test .holds (now (t .entry))) ⌝ }
 {
-    let mut all = true;
     for n in 0..t.limit() {
-        all &= t.holds(n);
+        if !t.holds(n) {
+            return false;
+        }
     }
-    all
+    true
 }
 
 // Whether the test holds of some number.
 pub fn exists<T: Test>(t: &T) -> bool
     ensures { λ r. ⌜ r ≡ existsOf (T·Test .limit (now (t .entry))) (T·Test .holds (now (t .entry))) ⌝ }
 {
-    let mut some = false;
     for n in 0..t.limit() {
-        some |= t.holds(n);
+        if t.holds(n) {
+            return true;
+        }
     }
-    some
+    false
 }
 
 // The lowest number of which the test holds.

@@ -5,6 +5,7 @@ use mathlib.Core.Bool.{true}
 use mathlib.Core.List.{List, [], _∷_}
 use native.Mathlib.Omega.{arith}
 use lib.ListN.{length, getD}
+use Rattle.std.proofs.shelf.Lists.{take-all}
 use Rattle.finite.specs.Finite.{table}
 use Rattle.blocks.specs.Bytes.{low, high}
 use Rattle.layout.specs.Inodes.{is-file, links, pointer, inode-of}
@@ -35,9 +36,7 @@ pub target-back : (i : ℕ) (name : List ℕ) → target (entry-of i name) ≡ i
 target-back i name = whole i
 
 pub title-back : (i : ℕ) (name : List ℕ) → length name ≡ 14 → title (entry-of i name) ≡ name
-unfolding title
-title-back i name l =
-    sym (table-is 14 _ name 0 l (λ k h. let e : suc (suc k) ≡ 2 + k = omega arith in ap (λ n. getD (entry-of i name) n 0) e))
+title-back i name l = take-all 14 name (omega arith)
 
 -- 16 bytes, spelled out
 pub spelled : (bytes : List ℕ) → length bytes ≡ 16
@@ -48,5 +47,6 @@ spelled bytes l = table-is 16 (λ k. getD bytes k 0) bytes 0 l (λ k h. refl)
 
 -- a slot's two bytes of a number, and those of its name
 pub entry-spelled : (bytes : List ℕ) → length bytes ≡ 16 → bytes ≡ getD bytes 0 0 ∷ getD bytes 1 0 ∷ title bytes
-unfolding title table
-entry-spelled bytes l = spelled bytes l
+entry-spelled [] l = absurd (omega arith)
+entry-spelled (a ∷ []) l = absurd (omega arith)
+entry-spelled (a ∷ b ∷ name) l = ap (λ r. a ∷ b ∷ r) (sym (take-all 14 name (omega arith)))

@@ -1,22 +1,19 @@
 -- The blocks of an empty card.
 use Prim.Native.Nat.{ℕ, _+_, _*_, _<_}
 use mathlib.Core.Path.{_≡_, refl, sym, ap, _∙_}
-use mathlib.Core.Bool.{Bool, false}
 use mathlib.Core.List.{List, _∷_}
 use native.Mathlib.Omega.{arith}
 use lib.ListN.{length, getD, replicate}
 use lib.Dec.{eqb, ltb}
 use Rattle.std.proofs.shelf.Tests.{cond-both}
 use Rattle.layout.specs.declared.types.Geometry.{Geometry}
-use Rattle.finite.specs.Finite.{table}
 use Rattle.blocks.specs.Bytes.{Block, low, high, word}
 use Rattle.blocks.specs.Bits.{packed}
 use Rattle.layout.specs.Shapes.{Shape, Good, first-data}
 use Rattle.layout.specs.Shaped.{shape}
 use Rattle.layout.specs.Heads.{head-of, head-shape}
 use Rattle.layout.specs.Fresh.{fresh-block}
-use Rattle.finite.proofs.Tables.{length-table, getD-table}
-use Rattle.blocks.proofs.Packed.{packed-same}
+use Rattle.finite.proofs.Tables.{length-table}
 
 -- a geometry is good by its type
 pub good : (g : Geometry) → Good (shape g)
@@ -49,10 +46,6 @@ module _ (g : Shape) (good : Good g) where
       let i : low (g .inodes) + 256 * high (g .inodes) ≡ g .inodes = omega arith in
       let d : low (g .directory) + 256 * high (g .directory) ≡ g .directory = omega arith in
       λ j. record { blocks = n j; inodes = i j; directory = d j }
-
--- the map of a table of marks
-pub packed-table : (marks : List Bool) (p : ℕ → Bool) → marks ≡ table 512 p → packed (λ n. getD marks n false) ≡ packed p
-packed-table marks p e = packed-same _ p (λ n h. ap (λ m. getD m n false) e ∙ getD-table 512 p n false h)
 
 -- each has 64 bytes
 pub fresh-whole : (g : Shape) (b : ℕ) → length (fresh-block g b) ≡ 64

@@ -1,18 +1,16 @@
 -- Directory entries: 16 bytes with an inode number and a name. An empty slot is all zeros.
-use Prim.Native.Nat.{ℕ, _+_}
+use Prim.Native.Nat.{ℕ}
 use mathlib.Core.Bool.{Bool}
 use mathlib.Core.List.{List, _∷_}
-use lib.ListN.{getD}
-use Rattle.finite.specs.Finite.{table}
-use Rattle.blocks.specs.Bytes.{word, low, high, zeros}
+use Rattle.blocks.specs.Bytes.{word, low, high, zeros, part}
 
 -- the inode that an entry leads to
 abbrev pub target : List ℕ → ℕ
 target entry = word entry 0
 
 -- the 14 bytes of an entry's name
-unfoldable pub title : List ℕ → List ℕ
-title entry = table 14 (λ k. getD entry (2 + k) 0)
+abbrev pub title : List ℕ → List ℕ
+title entry = part entry 2 14
 
 -- a slot that holds no entry
 abbrev pub empty : List ℕ → Bool

@@ -3,6 +3,7 @@ ghost use mathlib.Core.Path.{_≡_};
 ghost use mathlib.Core.Bool.{true, false};
 ghost use lib.ListN.{length, getD};
 ghost use Rattle.std.specs.Options.{Cases as BySome};
+ghost use Rattle.std.specs.shelf.Text.{sameBytes};
 ghost use Rattle.layout.specs.Names.{well-formed};
 ghost use Rattle.layout.specs.Entries.{target, title as titleIn, entry-of};
 use crate::types::Name;
@@ -25,6 +26,13 @@ pub fn title(slot: &Quarter) -> [u8; 14]
     let mut bytes = [0u8; 14];
     bytes.copy_from_slice(&slot[2..16]);
     bytes
+}
+
+// Whether a slot's name has these 14 bytes.
+pub fn has_title(slot: &Quarter, name: &[u8; 14]) -> bool
+    ensures { λ r. ⌜ r ≡ sameBytes (now (name .entry)) (titleIn (now (slot .entry))) ⌝ }
+{
+    *name == title(slot)
 }
 
 impl Entry {

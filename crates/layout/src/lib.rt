@@ -10,6 +10,7 @@ mod types;
 
 pub use empty::prepare;
 pub use entry::Entry;
+pub use entry::has_title;
 pub use entry::title;
 pub use refusal::Place;
 pub use refusal::Refusal;

@@ -48,7 +48,7 @@ module _ (g : Shape) (m : Medium) where
 
   module _ (q b : ℕ) (led : List Bool) (passed : Passed q led) (is : b ≡ pointer-at m q) where
     leads-more : (k : ℕ) → leads-to (q + 1) k ≡ leads-to q k || eqb b k
-    leads-more k = sym (exists-more (λ r. eqb (pointer-at m r) k) q refl (λ j. eqb (is j) k))
+    leads-more k = exists-more (λ r. eqb (pointer-at m r) k) q ∙ (λ j. leads-to q k || eqb (sym is j) k)
 
     -- a pointer of 0 leads nowhere
     pub leads-nowhere : b ≡ 0 → Passed (q + 1) led

@@ -8,5 +8,4 @@ pub mod SlotLaws
 pub mod Judged
 pub mod Tallies
 pub mod PreparedLaws
-pub mod Titled
 pub mod Led

@@ -11,13 +11,14 @@ use Rattle.std.proofs.shelf.Tests.{lt-ltb, le-ltb, ne-eqb, cond-true, cond-fals
 use Rattle.finite.specs.Finite.{count}
 use Rattle.blocks.specs.Bytes.{Block, quarter}
 use Rattle.blocks.specs.Bits.{bit}
-use Rattle.blocks.specs.Images.{image-block, image-blocks, with-blocks}
+use Rattle.blocks.specs.Images.{image-blocks, with-blocks}
 use Rattle.layout.specs.Shapes.{Shape, Good, first-data, slots, inode-block, slot-block}
 use Rattle.layout.specs.Inodes.{pointer}
 use Rattle.layout.specs.Fresh.{fresh-block, prepared}
 use Rattle.finite.proofs.Decided.{count-none}
 use Rattle.finite.proofs.Tables.{getD-table}
 use Rattle.blocks.proofs.Packed.{bit-packed}
+use Rattle.blocks.proofs.Parts.{part-at}
 use Rattle.soundness.specs.Media.{Medium, block, inode, slot, names}
 use Rattle.soundness.specs.Sound.{Blank, SoundAt, Prepared-is-sound}
 use Rattle.soundness.proofs.InodeLaws.{decides-blank}
@@ -32,11 +33,12 @@ module _ (g : Shape) (good : Good g) (image : List ℕ) (long : length image ≡
 
   -- a block before the data area is the fresh one, byte for byte
   fresh-byte : (b k : ℕ) → b < first-data g → k < 64 → getD (block card b) k 0 ≡ getD (fresh-block g b) k 0
-  unfolding image-block image-blocks with-blocks
+  unfolding image-blocks with-blocks
   fresh-byte b k before h =
       let which : (64 * b + k) / 64 ≡ b = omega arith in
       let place : (64 * b + k) % 64 ≡ k = omega arith in
-      ap (λ (bytes : Block). getD bytes k 0) (getD-table (g .blocks) _ b [] (omega arith)) ∙ getD-table 64 _ k 0 h
+      ap (λ (bytes : Block). getD bytes k 0) (getD-table (g .blocks) _ b [] (omega arith))
+      ∙ part-at (prepared g image) (64 * b) 64 k h
       ∙ getD-table (length image) _ (64 * b + k) 0 (omega arith) ∙ cond-true (ltb (64 * b + k) (64 * first-data g)) _ _ (lt-ltb _ _ (omega arith))
       ∙ (λ j. getD (fresh-block g (which j)) (place j) 0)
 
@@ -57,9 +59,8 @@ module _ (g : Shape) (good : Good g) (image : List ℕ) (long : length image ≡
       ∙ cond-false (eqb b 2) _ _ (ne-eqb b 2 (λ e. omega arith))
 
   blank-quarter : (b k : ℕ) → 3 ≤ b → b < first-data g → k < 4 → Blank (quarter (block card b) k)
-  unfolding quarter
   blank-quarter b k after before h j l =
-      getD-table 16 _ j 0 l ∙ fresh-byte b (16 * k + j) before (omega arith)
+      part-at (block card b) (16 * k) 16 j l ∙ fresh-byte b (16 * k + j) before (omega arith)
       ∙ ap (λ (bytes : Block). getD bytes (16 * k + j) 0) (zero-block b after) ∙ getD-replicate 64 (16 * k + j) 0 0 (omega arith)
 
   blank-inode : (i : ℕ) → i < g .inodes → Blank (inode card i)

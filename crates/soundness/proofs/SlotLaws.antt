@@ -1,20 +1,23 @@
 -- The slots: each is empty or leads a name to a present inode, and no name stands twice.
 use Prim.Native.Nat.{ℕ, _+_, _<_}
-use mathlib.Core.Path.{_≡_, sym, _∙_, subst}
+use mathlib.Core.Path.{_≡_, sym, ap, _∙_, subst}
 use mathlib.Core.Logic.{_⊎_, inl, inr}
+use mathlib.Core.Bool.{false, not, _&&_}
 use mathlib.Core.List.{List}
 use native.Mathlib.Omega.{arith}
 use lib.ListN.{getD}
 use Rattle.std.specs.Orderings.{Decides}
+use Rattle.std.specs.shelf.Text.{sameBytes}
 use Rattle.std.proofs.shelf.Tests.{cases-bool, both-ways}
 use Rattle.std.proofs.shelf.Equals.{sameBytes-decides}
 use Rattle.std.proofs.shelf.Ways.{decides-like, decides-and, decides-ltb}
+use Rattle.finite.specs.Finite.{exists}
 use Rattle.layout.specs.declared.refusal.Refusal.the-variants.{BadSlot, NameTwice}
 use Rattle.layout.specs.Shapes.{Shape, slots}
 use Rattle.layout.specs.Inodes.{present}
 use Rattle.layout.specs.Entries.{empty, target, title}
 use Rattle.layout.specs.Names.{Named}
-use Rattle.finite.proofs.Tables.{getD-table}
+use Rattle.blocks.proofs.Parts.{part-at}
 use Rattle.layout.proofs.Titles.{named-well-formed, well-formed-named, printable-some}
 use Rattle.soundness.specs.Media.{Medium, inode, slot}
 use Rattle.soundness.specs.Faults.{leads, slot-fault, same-name, name-fault}
@@ -26,10 +29,9 @@ use Rattle.soundness.proofs.Alone.{FirstOf, Carried, alone}
 
 -- a name does not begin with a zero byte, and so a blank slot has none
 blank-title : (bytes : List ℕ) → Blank bytes → Named (title bytes) → ⊥
-unfolding title
 blank-title bytes blank n =
     printable-some (getD (title bytes) 0 0) (n .bytes 0 (n .some))
-    (getD-table 14 (λ k. getD bytes (2 + k) 0) 0 0 (omega arith) ∙ blank 2 (omega arith))
+    (part-at bytes 2 14 0 (omega arith) ∙ blank 2 (omega arith))
 
 module _ (g : Shape) (m : Medium) where
   abbrev pub Entries : Type 0
@@ -92,3 +94,10 @@ module _ (g : Shape) (m : Medium) where
   clears-names entries =
       clears-like (name-verdict g m) (unique-one-name entries) one-name-unique
       (clears-found NameTwice (slot-place g) (slots g) (name-fault g m) Unique (λ s _. spares-name s))
+
+  -- a slot that holds an entry is at fault if an earlier one holds the entry's name
+  pub held-twice : (s : ℕ) (e name : List ℕ) → e ≡ slot g m s → empty e ≡ false → name ≡ title e
+      → exists s (λ t. not (empty (slot g m t)) && sameBytes name (title (slot g m t))) ≡ name-fault g m s
+  held-twice s e name is held told =
+      ap (λ (n : List ℕ). exists s (λ t. not (empty (slot g m t)) && sameBytes n (title (slot g m t)))) (told ∙ ap title is)
+      ∙ ap (λ b. not b && exists s (same-name g m s)) (sym held ∙ ap empty is)

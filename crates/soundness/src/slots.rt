@@ -16,11 +16,13 @@ ghost use Rattle.soundness.specs.Faults.{slot-fault, name-fault, leads as lead
 ghost use Rattle.soundness.specs.Verdict.{slot-verdict, name-verdict};
 use crate::medium::Medium;
 use blocks::Quarter;
+use blocks::is_zero;
 use finite::Test;
 use finite::exists;
 use finite::lowest;
 use layout::Entry;
 use layout::Refusal;
+use layout::has_title;
 use layout::title;
 
 // The entries that do not lead a name to a present inode.
@@ -65,10 +67,8 @@ impl Test for SameName<'_> as SameNameTest {
     }
 
     fn holds(&self, n: usize) -> bool {
-        match self.medium.entry(n) {
-            Some(bytes) => self.title == title(&bytes),
-            None => false,
-        }
+        let slot = self.medium.slot(n);
+        has_title(&slot, &self.title) && !is_zero(&slot)
     }
 }
 

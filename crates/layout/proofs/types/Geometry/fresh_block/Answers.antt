@@ -4,7 +4,7 @@ use Rattle.blocks.specs.Bits.{packed}
 use Rattle.layout.specs.Shaped.{shape}
 use Rattle.layout.specs.Shapes.{first-data}
 use Rattle.layout.specs.Fresh.{fresh-block}
-use Rattle.layout.proofs.Fresh.{packed-table}
+use Rattle.blocks.proofs.Packed.{packed-table}
 use Rattle.layout.proofs.types.Geometry.fresh_block.Needs as need
 
 pub returns-in-1 : need.returns-in-1
