@@ -11,7 +11,7 @@ use Rattle.std.proofs.shelf.Lists.{getD-past}
 use Rattle.finite.specs.Finite.{digit, table}
 use Rattle.blocks.specs.Bytes.{Block}
 use Rattle.blocks.specs.Bits.{bit, octet, packed}
-use Rattle.finite.proofs.Tables.{length-table, getD-table, table-is, table-same}
+use Rattle.finite.proofs.Tables.{getD-table, table-is, table-same}
 
 digit-le : (b : Bool) → digit b ≤ 1
 digit-le true = omega arith

@@ -1,10 +1,9 @@
 // The numbers in a run of bytes, and the quarters of a block.
 ghost use mathlib.Core.Path.{_≡_};
-ghost use mathlib.Core.List.{List, [], _∷_};
-ghost use Prim.Native.Nat.{ℕ, _+_, _*_, _/_, _%_, _<_, _≤_};
+ghost use Prim.Native.Nat.{_+_, _<_};
 ghost use lib.ListN.{length, getD};
 ghost use lib.Dec.{eqb};
-ghost use Rattle.blocks.specs.Bytes.{word as wordOf, low as lowOf, high as highOf, zeros, part, quarter as quarterOf};
+ghost use Rattle.blocks.specs.Bytes.{word as wordOf, low as lowOf, high as highOf, zeros, quarter as quarterOf};
 use finite::Test;
 use finite::every;
 

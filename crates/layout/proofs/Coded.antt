@@ -1,14 +1,13 @@
 -- Inodes and entries read back from their bytes.
-use Prim.Native.Nat.{ℕ, zero, suc, _+_, _*_, _/_, _%_, _<_}
-use mathlib.Core.Path.{_≡_, refl, sym, ap, _∙_}
-use mathlib.Core.Bool.{true}
+use Prim.Native.Nat.{ℕ, zero, suc, _+_, _*_, _<_}
+use mathlib.Core.Path.{_≡_, refl, sym, ap}
 use mathlib.Core.List.{List, [], _∷_}
 use native.Mathlib.Omega.{arith}
 use lib.ListN.{length, getD}
 use Rattle.std.proofs.shelf.Lists.{take-all}
 use Rattle.finite.specs.Finite.{table}
 use Rattle.blocks.specs.Bytes.{low, high}
-use Rattle.layout.specs.Inodes.{is-file, links, pointer, inode-of}
+use Rattle.layout.specs.Inodes.{links, pointer, inode-of}
 use Rattle.layout.specs.Entries.{target, title, entry-of}
 use Rattle.finite.proofs.Tables.{table-is}
 

@@ -1,13 +1,13 @@
 -- The blocks of an empty card.
 use Prim.Native.Nat.{ℕ, _+_, _*_, _<_}
-use mathlib.Core.Path.{_≡_, refl, sym, ap, _∙_}
-use mathlib.Core.List.{List, _∷_}
+use mathlib.Core.Path.{_≡_, refl}
+use mathlib.Core.List.{_∷_}
 use native.Mathlib.Omega.{arith}
-use lib.ListN.{length, getD, replicate}
+use lib.ListN.{length, replicate}
 use lib.Dec.{eqb, ltb}
 use Rattle.std.proofs.shelf.Tests.{cond-both}
 use Rattle.layout.specs.declared.types.Geometry.{Geometry}
-use Rattle.blocks.specs.Bytes.{Block, low, high, word}
+use Rattle.blocks.specs.Bytes.{Block, low, high}
 use Rattle.blocks.specs.Bits.{packed}
 use Rattle.layout.specs.Shapes.{Shape, Good, first-data}
 use Rattle.layout.specs.Shaped.{shape}

@@ -1,6 +1,5 @@
 -- The head of a card: the letters FST, a zero byte, the version, the geometry, and zeros.
-use Prim.Native.Nat.{ℕ}
-use mathlib.Core.List.{List, _∷_}
+use mathlib.Core.List.{_∷_}
 use lib.ListN.{replicate}
 use Rattle.blocks.specs.Bytes.{Block, low, high, word}
 use Rattle.layout.specs.Shapes.{Shape}

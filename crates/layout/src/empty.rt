@@ -1,14 +1,13 @@
 // An empty card in an image.
 ghost use mathlib.Core.Path.{_≡_};
-ghost use Prim.Native.Nat.{ℕ, _+_, _*_, _<_, _≤_};
-ghost use lib.ListN.{length, getD};
+ghost use Prim.Native.Nat.{_*_};
+ghost use lib.ListN.{length};
 ghost use Rattle.std.specs.Results.{Cases};
 ghost use Rattle.std.specs.declared.result.Result.the-variants.{Ok, Err};
-ghost use Rattle.layout.specs.Shapes.{Good, first-data};
+ghost use Rattle.layout.specs.Shapes.{Good};
 ghost use Rattle.layout.specs.Shaped.{shape};
 ghost use Rattle.layout.specs.Heads.{head-of, head-shape};
 ghost use Rattle.layout.specs.Fresh.{fresh-block, prepared};
-ghost use Rattle.layout.specs.declared.refusal.Refusal.{Refusal};
 ghost use Rattle.layout.specs.declared.refusal.Refusal.the-variants.{BadGeometry};
 use crate::refusal::Refusal;
 use crate::types::Geometry;

@@ -1,7 +1,6 @@
 // A directory entry, and its 16 bytes.
 ghost use mathlib.Core.Path.{_≡_};
-ghost use mathlib.Core.Bool.{true, false};
-ghost use lib.ListN.{length, getD};
+ghost use mathlib.Core.Bool.{false};
 ghost use Rattle.std.specs.Options.{Cases as BySome};
 ghost use Rattle.std.specs.shelf.Text.{sameBytes};
 ghost use Rattle.layout.specs.Names.{well-formed};

@@ -1,12 +1,8 @@
 // The geometry of a card, and the block ranges that follow from it.
 ghost use mathlib.Core.Path.{_≡_};
-ghost use mathlib.Core.Bool.{_&&_};
-ghost use Prim.Native.Nat.{_+_, _*_, _/_, _%_, _<_, _≤_};
-ghost use lib.Dec.{leb, ltb, eqb};
 ghost use Rattle.std.specs.Results.{Cases};
-ghost use Rattle.layout.specs.Shapes.{Good, good-blocks, good-inodes, good-directory, first-directory, first-data, slots as slotsOf};
+ghost use Rattle.layout.specs.Shapes.{Good, first-directory, first-data, slots as slotsOf};
 ghost use Rattle.layout.specs.Shaped.{shape};
-ghost use Rattle.layout.specs.declared.refusal.Refusal.{Refusal};
 ghost use Rattle.layout.specs.declared.refusal.Refusal.the-variants.{BadGeometry};
 use crate::refusal::Refusal;
 use crate::types::Geometry;

@@ -1,14 +1,11 @@
 // Names: 1 to 14 printable bytes, kept filled up with zeros.
 ghost use mathlib.Core.Path.{_≡_};
-ghost use mathlib.Core.Bool.{true, false, not, _&&_, _||_};
-ghost use Prim.Native.Nat.{ℕ, _+_, _<_, _≤_};
+ghost use mathlib.Core.Bool.{true, false};
+ghost use Prim.Native.Nat.{_≤_};
 ghost use lib.ListN.{length, getD};
-ghost use lib.Dec.{eqb, leb};
 ghost use Rattle.std.specs.Results.{Cases as ByOk};
 ghost use Rattle.std.specs.Options.{Cases as BySome};
-ghost use Rattle.finite.specs.Finite.{every as everyOf};
 ghost use Rattle.layout.specs.Names.{printable, proper, padded, goes-on, well-formed};
-ghost use Rattle.layout.specs.declared.refusal.Refusal.{Refusal};
 ghost use Rattle.layout.specs.declared.refusal.Refusal.the-variants.{MalformedName};
 use crate::refusal::Refusal;
 use crate::types::Name;

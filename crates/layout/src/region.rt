@@ -1,7 +1,5 @@
 // What each block of a card is for.
 ghost use mathlib.Core.Path.{_≡_};
-ghost use mathlib.Core.Bool.{cond};
-ghost use lib.Dec.{eqb, ltb};
 ghost use Rattle.layout.specs.Regions.{region as regionOf};
 ghost use Rattle.layout.specs.Shaped.{shape};
 use crate::types::Geometry;

@@ -1,8 +1,7 @@
 -- The tests of a medium: each says whether one bit, inode, pointer or slot is at fault.
-use Prim.Native.Nat.{ℕ, _+_, _/_, _%_}
+use Prim.Native.Nat.{ℕ, _/_, _%_}
 use mathlib.Core.Bool.{Bool, cond, not, _&&_, _||_}
 use lib.Dec.{eqb, leb, ltb}
-use lib.ListN.{getD}
 use Rattle.std.specs.shelf.Text.{sameBytes}
 use Rattle.finite.specs.Finite.{exists, count}
 use Rattle.blocks.specs.Bytes.{Block, zeros}

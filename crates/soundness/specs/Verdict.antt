@@ -1,7 +1,6 @@
 -- The verdict on a medium: sound, or the lowest number that applies, where it first applies.
 use Prim.Native.Nat.{ℕ, _+_, _*_, _/_, _%_}
 use mathlib.Core.Bool.{Bool, cond, not, _&&_}
-use mathlib.Core.List.{List}
 use lib.Dec.{eqb}
 use lib.ListN.{getD}
 use Rattle.std.specs.declared.option.Option.{Option}

@@ -1,14 +1,10 @@
 // The judgement of a head.
 ghost use mathlib.Core.Path.{_≡_};
-ghost use mathlib.Core.Bool.{Bool, true, false, cond, not, _&&_};
-ghost use Prim.Native.Nat.{ℕ, _+_, _/_, _%_, _<_, _≤_};
-ghost use lib.ListN.{length, getD};
-ghost use lib.Dec.{eqb, leb, ltb};
-ghost use Rattle.std.specs.Results.{errPart, Cases as ByOk};
+ghost use Prim.Native.Nat.{_<_, _≤_};
+ghost use Rattle.std.specs.Results.{errPart};
 ghost use Rattle.std.specs.Vec.{made};
-ghost use Rattle.blocks.specs.Bytes.{word as wordOf};
 ghost use Rattle.layout.specs.Shaped.{shape};
-ghost use Rattle.layout.specs.Shapes.{good-blocks, good-inodes, good-directory};
+ghost use Rattle.layout.specs.Shapes.{good-inodes, good-directory};
 ghost use Rattle.layout.specs.Heads.{head-of, head-shape};
 ghost use Rattle.soundness.specs.Verdict.{lettered, filling-fault, geometry-verdict, head-verdict};
 use blocks::Block;

@@ -1,16 +1,14 @@
 // The judgement of inodes and of their link counts.
 ghost use mathlib.Core.Path.{_≡_};
-ghost use mathlib.Core.Bool.{Bool, true, false, not, _&&_};
-ghost use Prim.Native.Nat.{ℕ, _+_, _*_, _/_, _%_, _<_, _≤_};
-ghost use lib.Dec.{eqb, ltb};
+ghost use Prim.Native.Nat.{ℕ, _<_};
+ghost use lib.Dec.{ltb};
 ghost use lib.ListN.{length, getD};
 ghost use Rattle.std.specs.Results.{errPart};
 ghost use Rattle.finite.specs.Finite.{count};
-ghost use Rattle.blocks.specs.Bits.{bit as bitOf};
 ghost use Rattle.layout.specs.Shaped.{shape};
 ghost use Rattle.layout.specs.Shapes.{slots};
-ghost use Rattle.layout.specs.Inodes.{is-file, links};
-ghost use Rattle.soundness.specs.Media.{block, inode as inodeOf, names};
+ghost use Rattle.layout.specs.Inodes.{links};
+ghost use Rattle.soundness.specs.Media.{inode as inodeOf, names};
 ghost use Rattle.soundness.specs.Faults.{inode-fault};
 ghost use Rattle.soundness.specs.Verdict.{inode-verdict, link-verdict};
 use crate::medium::Medium;

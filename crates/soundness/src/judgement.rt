@@ -1,6 +1,5 @@
 // The judgement of a medium.
 ghost use mathlib.Core.Path.{_≡_};
-ghost use Prim.Native.Nat.{ℕ};
 ghost use Rattle.std.specs.Orderings.{Decides};
 ghost use Rattle.std.specs.Results.{errPart, isOk};
 ghost use Rattle.std.specs.Vec.{made};

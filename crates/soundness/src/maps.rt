@@ -1,12 +1,7 @@
 // The judgement of the two maps.
 ghost use mathlib.Core.Path.{_≡_};
-ghost use mathlib.Core.Bool.{cond, not, _&&_};
-ghost use Prim.Native.Nat.{ℕ, _/_, _<_};
-ghost use lib.Dec.{leb, ltb};
-ghost use lib.ListN.{length, getD};
 ghost use Rattle.std.specs.Results.{errPart};
 ghost use Rattle.layout.specs.Shaped.{shape};
-ghost use Rattle.soundness.specs.Media.{block};
 ghost use Rattle.soundness.specs.Faults.{bit-fault};
 ghost use Rattle.soundness.specs.Verdict.{map-verdict};
 use crate::medium::Medium;

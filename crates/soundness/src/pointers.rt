@@ -1,9 +1,6 @@
 // The judgement of pointers.
 ghost use mathlib.Core.Path.{_≡_};
-ghost use mathlib.Core.Bool.{Bool, true, false, not, _&&_, _||_};
-ghost use Prim.Native.Nat.{ℕ, _+_, _*_, _/_, _%_, _<_, _≤_};
-ghost use lib.Dec.{eqb, leb, ltb};
-ghost use lib.ListN.{length, getD};
+ghost use Prim.Native.Nat.{_*_, _<_};
 ghost use Rattle.std.specs.Results.{errPart};
 ghost use Rattle.layout.specs.Shaped.{shape};
 ghost use Rattle.soundness.specs.Faults.{pointer-at, marked-data};

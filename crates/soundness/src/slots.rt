@@ -1,9 +1,8 @@
 // The judgement of the directory: entries, and names that stand twice.
 ghost use mathlib.Core.Path.{_≡_};
-ghost use mathlib.Core.Bool.{Bool, true, false, not, _&&_};
-ghost use Prim.Native.Nat.{ℕ, _+_, _*_, _/_, _%_, _<_, _≤_};
-ghost use lib.Dec.{eqb, ltb};
-ghost use lib.ListN.{length, getD};
+ghost use mathlib.Core.Bool.{not, _&&_};
+ghost use Prim.Native.Nat.{_<_, _≤_};
+ghost use lib.Dec.{ltb};
 ghost use Rattle.std.specs.Results.{errPart};
 ghost use Rattle.std.specs.shelf.Text.{sameBytes};
 ghost use Rattle.layout.specs.Shaped.{shape};
@@ -11,8 +10,8 @@ ghost use Rattle.layout.specs.Shapes.{slots};
 ghost use Rattle.layout.specs.Inodes.{present};
 ghost use Rattle.layout.specs.Entries.{empty, target, title as titleOf};
 ghost use Rattle.layout.specs.Names.{well-formed};
-ghost use Rattle.soundness.specs.Media.{Medium as Blocks, inode as inodeOf, slot as slotOf};
-ghost use Rattle.soundness.specs.Faults.{slot-fault, name-fault, leads as leadsOf};
+ghost use Rattle.soundness.specs.Media.{inode as inodeOf, slot as slotOf};
+ghost use Rattle.soundness.specs.Faults.{slot-fault, name-fault};
 ghost use Rattle.soundness.specs.Verdict.{slot-verdict, name-verdict};
 use crate::medium::Medium;
 use blocks::Quarter;

@@ -1,5 +1,5 @@
 use mathlib.Core.Path.{_≡_, ap, _∙_}
-use mathlib.Core.List.{List, [], _∷_, _++_, append-nil}
+use mathlib.Core.List.{[], _∷_, _++_, append-nil}
 use Rattle.layout.specs.Entries.{target, title, entry-of}
 use Rattle.layout.proofs.Coded.{target-back, title-back}
 use Rattle.layout.proofs.entry.Entry.bytes.Needs as need

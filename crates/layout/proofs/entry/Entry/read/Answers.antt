@@ -1,6 +1,5 @@
-use Prim.Native.Nat.{ℕ}
 use mathlib.Core.Path.{_≡_, sym, _∙_}
-use mathlib.Core.List.{List, _∷_}
+use mathlib.Core.List.{_∷_}
 use lib.ListN.{getD}
 use Rattle.layout.specs.Entries.{title, entry-of}
 use Rattle.layout.proofs.Coded.{entry-spelled}

@@ -1,4 +1,4 @@
-use mathlib.Core.Path.{_≡_, ap, _∙_}
+use mathlib.Core.Path.{ap, _∙_}
 use Rattle.layout.specs.Shaped.{shape}
 use Rattle.layout.specs.Heads.{head-shape}
 use Rattle.layout.proofs.Fresh.{good, head-spelled, head-back}

@@ -1,5 +1,5 @@
 use mathlib.Core.Path.{_≡_, ap, _∙_}
-use mathlib.Core.List.{List, [], _∷_}
+use mathlib.Core.List.{[], _∷_}
 use Rattle.layout.specs.Inodes.{is-file, links, pointer, inode-of}
 use Rattle.layout.proofs.Coded.{links-back, pointer-back}
 use Rattle.layout.proofs.types.Inode.bytes.Needs as need

@@ -1,6 +1,5 @@
 use Prim.Native.Nat.{ℕ}
-use mathlib.Core.Path.{_≡_, sym, ap, _∙_}
-use mathlib.Core.Bool.{true}
+use mathlib.Core.Path.{sym, ap, _∙_}
 use lib.ListN.{length, getD}
 use Rattle.layout.specs.Names.{well-formed, padded}
 use Rattle.finite.proofs.Tables.{length-table}

@@ -1,16 +1,8 @@
-use Prim.Native.Nat.{ℕ, _+_, _*_, _/_, _%_}
-use mathlib.Core.Path.{_≡_, ap, _∙_}
-use native.Mathlib.Omega.{arith}
-use lib.ListN.{getD}
-use lib.Dec.{ltb}
-use Rattle.finite.specs.Finite.{lowest}
-use Rattle.finite.proofs.Decided.{lowest-same}
+use Prim.Native.Nat.{_+_, _*_, _%_}
+use mathlib.Core.Path.{ap, _∙_}
 use Rattle.layout.specs.declared.refusal.Refusal.the-variants.{FewLinks}
 use Rattle.layout.specs.Shapes.{inode-block}
 use Rattle.layout.specs.Shaped.{shape}
-use Rattle.layout.specs.Inodes.{links}
-use Rattle.soundness.specs.Media.{inode}
-use Rattle.soundness.specs.Faults.{link-fault}
 use Rattle.soundness.specs.Verdict.{at, found}
 use Rattle.soundness.proofs.Tallies.{few-by-tally}
 use Rattle.soundness.proofs.medium.Medium.check_links.Needs as need
