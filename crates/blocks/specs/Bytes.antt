@@ -14,10 +14,11 @@ Block = List ℕ
 abbrev pub word : List ℕ → ℕ → ℕ
 word bytes at = getD bytes at 0 + 256 * getD bytes (at + 1) 0
 
--- the low and the high byte of a 16-bit number
+-- the low byte of a 16-bit number
 abbrev pub low : ℕ → ℕ
 low n = n % 256
 
+-- its high byte
 abbrev pub high : ℕ → ℕ
 high n = n / 256
 

@@ -14,6 +14,7 @@ present inode = eqb (getD inode 0 0) 1
 abbrev pub is-file : List ℕ → Bool
 is-file inode = eqb (getD inode 0 0) 1 && eqb (getD inode 1 0) 0
 
+-- the link count
 abbrev pub links : List ℕ → ℕ
 links inode = word inode 2
 

@@ -37,6 +37,7 @@ pointer-fault g m q =
 abbrev pub leads : Shape → Medium → ℕ → Bool
 leads g m s = well-formed (title (slot g m s)) && (ltb (target (slot g m s)) (g .inodes) && present (inode m (target (slot g m s))))
 
+-- a slot must be empty, or its entry must lead
 abbrev pub slot-fault : Shape → Medium → ℕ → Bool
 slot-fault g m s = not (empty (slot g m s)) && not (leads g m s)
 

@@ -12,6 +12,7 @@ use Rattle.layout.specs.Entries.{empty, target}
 abbrev pub Medium : Type 0
 Medium = List Block
 
+-- block b; no bytes where there is none
 abbrev pub block : Medium → ℕ → Block
 block m b = getD m b []
 

@@ -42,6 +42,7 @@ pub record Leads (g : Shape) (m : Medium) (s : ℕ) : Type 0 where
   pub within : target (slot g m s) < g .inodes
   pub led : present (inode m (target (slot g m s))) ≡ true
 
+-- a medium is sound at a geometry
 pub record SoundAt (g : Shape) (m : Medium) : Type 0 where
   -- the geometry is within its limits, and block 0 tells it, byte for byte
   pub good : Good g
