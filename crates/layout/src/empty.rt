@@ -1,7 +1,8 @@
 // An empty card in an image.
 ghost use mathlib.Core.Path.{_≡_};
 ghost use Prim.Native.Nat.{_*_};
-ghost use lib.ListN.{length};
+ghost use mathlib.Core.List.{_∷_};
+ghost use lib.ListN.{length, replicate};
 ghost use Rattle.std.specs.Results.{Cases};
 ghost use Rattle.std.specs.declared.result.Result.the-variants.{Ok, Err};
 ghost use Rattle.layout.specs.Shapes.{Good};
@@ -15,21 +16,27 @@ use blocks::Block;
 use blocks::Map;
 use blocks::write_block;
 
+fn head_bytes(blocks: u8, inodes: u8, directory: u8) -> Block
+    ensures { λ r. ⌜ r ≡ 70 ∷ 83 ∷ 84 ∷ 0 ∷ 1 ∷ 0 ∷ blocks ∷ 0 ∷ inodes ∷ 0 ∷ directory ∷ 0 ∷ replicate 52 0 ⌝ }
+{
+    let mut head = [0u8; 64];
+    head[0] = b'F';
+    head[1] = b'S';
+    head[2] = b'T';
+    head[4] = 1;
+    head[6] = blocks;
+    head[8] = inodes;
+    head[10] = directory;
+    head
+}
+
 impl Geometry {
-    // The head of a card of this geometry.
+    // The head of a card of this geometry; read again it tells the same.
     pub fn head(&self) -> Block
         ensures value { λ r. ⌜ r ≡ head-of (shape (now (self .entry))) ⌝ }
         ensures back { λ r. ⌜ head-shape r ≡ shape (now (self .entry)) ⌝ }
     {
-        let mut head = [0u8; 64];
-        head[0] = b'F';
-        head[1] = b'S';
-        head[2] = b'T';
-        head[4] = 1;
-        head[6] = self.blocks as u8;
-        head[8] = self.inodes as u8;
-        head[10] = self.directory as u8;
-        head
+        head_bytes(self.blocks as u8, self.inodes as u8, self.directory as u8)
     }
 
     // Block b of an empty card, before the data area.

@@ -27,23 +27,37 @@ pub fn title(slot: &Quarter) -> [u8; 14]
     bytes
 }
 
+fn same_bytes(a: &[u8; 14], b: &[u8; 14]) -> bool
+    ensures { λ r. ⌜ r ≡ sameBytes (now (a .entry)) (now (b .entry)) ⌝ }
+{
+    *a == *b
+}
+
 // Whether a slot's name has these 14 bytes.
 pub fn has_title(slot: &Quarter, name: &[u8; 14]) -> bool
     ensures { λ r. ⌜ r ≡ sameBytes (now (name .entry)) (titleIn (now (slot .entry))) ⌝ }
 {
-    *name == title(slot)
+    same_bytes(name, &title(slot))
+}
+
+fn entry_bytes(inode: u16, name: &[u8; 14]) -> Quarter
+    ensures value { λ r. ⌜ r ≡ entry-of inode (now (name .entry)) ⌝ }
+    ensures back { λ r. ⌜ (target r ≡ inode) × (titleIn r ≡ now (name .entry)) ⌝ }
+{
+    let mut out = [0u8; 16];
+    out[0] = low(inode);
+    out[1] = high(inode);
+    out[2..16].copy_from_slice(name);
+    out
 }
 
 impl Entry {
+    // The 16 bytes of an entry; read again they tell the same.
     pub fn bytes(&self) -> Quarter
         ensures value { λ r. ⌜ r ≡ entry-of (now (self .entry) .inode) (now (self .entry) .name .bytes) ⌝ }
         ensures back { λ r. ⌜ (target r ≡ now (self .entry) .inode) × (titleIn r ≡ now (self .entry) .name .bytes) ⌝ }
     {
-        let mut out = [0u8; 16];
-        out[0] = low(self.inode);
-        out[1] = high(self.inode);
-        out[2..16].copy_from_slice(&self.name.bytes);
-        out
+        entry_bytes(self.inode, &self.name.bytes)
     }
 
     // The entry that 16 bytes are, if their name is well formed.

@@ -40,7 +40,7 @@ impl Geometry {
     pub fn first_data(&self) -> usize
         ensures { λ r. ⌜ r ≡ first-data (shape (now (self .entry))) ⌝ }
     {
-        3 + self.inodes / 4 + self.directory
+        self.first_directory() + self.directory
     }
 
     // How many slots the directory has.

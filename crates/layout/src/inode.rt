@@ -11,31 +11,38 @@ use blocks::high;
 use blocks::low;
 use blocks::word;
 
+fn file_bytes(links: u16, pointers: &[u16; 6]) -> Quarter
+    ensures value { λ r. ⌜ r ≡ inode-of links (now (pointers .entry)) ⌝ }
+    ensures back { λ r. ⌜ (is-file r ≡ true) × (linksIn r ≡ links) × ((k : ℕ) → k < 6 → pointer r k ≡ getD (now (pointers .entry)) k 0) ⌝ }
+{
+    let [a, b, c, d, e, f] = *pointers;
+    [
+        1,
+        0,
+        low(links),
+        high(links),
+        low(a),
+        high(a),
+        low(b),
+        high(b),
+        low(c),
+        high(c),
+        low(d),
+        high(d),
+        low(e),
+        high(e),
+        low(f),
+        high(f),
+    ]
+}
+
 impl Inode {
+    // The 16 bytes of a file's inode; read again they tell the same.
     pub fn bytes(&self) -> Quarter
         ensures value { λ r. ⌜ r ≡ inode-of (now (self .entry) .links) (now (self .entry) .pointers) ⌝ }
         ensures back { λ r. ⌜ (is-file r ≡ true) × (linksIn r ≡ now (self .entry) .links) × ((k : ℕ) → k < 6 → pointer r k ≡ getD (now (self .entry) .pointers) k 0) ⌝ }
     {
-        let [a, b, c, d, e, f] = self.pointers;
-        let n = self.links;
-        [
-            1,
-            0,
-            low(n),
-            high(n),
-            low(a),
-            high(a),
-            low(b),
-            high(b),
-            low(c),
-            high(c),
-            low(d),
-            high(d),
-            low(e),
-            high(e),
-            low(f),
-            high(f),
-        ]
+        file_bytes(self.links, &self.pointers)
     }
 
     // The inode that 16 bytes are, if they are a file's.

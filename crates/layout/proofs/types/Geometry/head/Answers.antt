@@ -7,5 +7,5 @@ use Rattle.layout.proofs.types.Geometry.head.Needs as need
 pub returns : need.returns
 returns c =
     let g = c .args .self .now in
-    let value = head-spelled (shape g) (good g) in
+    let value = c .head-bytes .ensures ∙ head-spelled (shape g) (good g) in
     record { value = value; back = ap head-shape value ∙ head-back (shape g) (good g) }

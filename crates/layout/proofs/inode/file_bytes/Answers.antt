@@ -2,12 +2,12 @@ use mathlib.Core.Path.{_≡_, ap, _∙_}
 use mathlib.Core.List.{[], _∷_}
 use Rattle.layout.specs.Inodes.{is-file, links, pointer, inode-of}
 use Rattle.layout.proofs.Coded.{links-back, pointer-back}
-use Rattle.layout.proofs.types.Inode.bytes.Needs as need
+use Rattle.layout.proofs.inode.file_bytes.Needs as need
 
 pub returns : need.returns
 returns c =
-    let n = c .args .self .now .links in
-    let p = c .args .self .now .pointers in
+    let n = c .args .links in
+    let p = c .args .pointers .now in
     let value : 1 ∷ 0 ∷ c .low .result ∷ c .high .result ∷ c .low-2 .result ∷ c .high-2 .result ∷ c .low-3 .result ∷ c .high-3 .result
     ∷ c .low-4 .result ∷ c .high-4 .result ∷ c .low-5 .result ∷ c .high-5 .result ∷ c .low-6 .result ∷ c .high-6 .result
     ∷ c .low-7 .result ∷ c .high-7 .result ∷ [] ≡ inode-of n p =
