@@ -1,6 +1,8 @@
-// Prepares a small card, shows it block by block, puts a file on it, and judges it sound and damaged.
+// Prepares a small card, shows it block by block, puts a file on it, and judges it sound and damaged;
+// then shows in which orders devices land what waits.
 mod build;
 mod damage;
+mod orders;
 mod show;
 
 use build::full_card;
@@ -8,6 +10,7 @@ use build::small_card;
 use build::table_of;
 use damage::DAMAGES;
 use layout::prepare;
+use orders::show_orders;
 use show::show_blocks;
 use show::show_verdict;
 use std::error::AnyError;
@@ -40,7 +43,8 @@ fn run(rt: &LibcRuntime) -> Result<(), AnyError> {
         Err(refusal) => println!(rt, "refused: {}", refusal.number())?,
     }
     show_damages(rt, &image)?;
-    show_full(rt)
+    show_full(rt)?;
+    show_orders(rt)
 }
 
 fn show_prepare(
