@@ -1,4 +1,6 @@
 // Blocks of 64 bytes: the numbers in them, their quarters, their bits, and the images they make up.
+#![tactic(auto)]
+
 mod bytes;
 mod image;
 mod map;

@@ -1,5 +1,7 @@
 // Prepares a small card, shows it block by block, puts a file on it, and judges it sound and damaged;
 // then shows in which orders devices land what waits.
+#![tactic(auto)]
+
 mod build;
 mod damage;
 mod orders;

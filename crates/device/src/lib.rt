@@ -1,4 +1,6 @@
 // What a device is: blocks of 64 bytes, and writes that wait until they land.
+#![tactic(auto)]
+
 ghost use Rattle.std.specs.Prelude.{◌≡◌, ℕ, List};
 ghost use Rattle.device.specs.declared.types.Write.{Write};
 ghost use Rattle.device.specs.Meaning.{means, waits, Kept, submit_answer, submitted, Collected, read_answer};

@@ -1,4 +1,6 @@
 // Tests of the numbers below a limit: a type says what it tests, and these functions go through them once.
+#![tactic(auto)]
+
 ghost use Rattle.std.specs.Prelude.{◌≡◌, ℕ, ◌<◌, Bool, IfSome};
 ghost use Rattle.finite.specs.Finite.{every as every_of, exists as exists_of, lowest as lowest_of};
 

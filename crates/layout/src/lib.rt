@@ -1,4 +1,6 @@
 // The layout of a card: what its blocks hold, the numbers of the refusals, and an empty card.
+#![tactic(auto)]
+
 mod empty;
 mod entry;
 mod geometry;

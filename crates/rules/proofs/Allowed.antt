@@ -4,7 +4,6 @@ use Rattle.std.proofs.lemmas.Bool.{not-true, ltb-true, eqb-true, eqb-false, true
 use Rattle.finite.proofs.Decided.{lowest_at}
 use Rattle.layout.specs.declared.refusal.Refusal.{Refusal}
 use Rattle.layout.specs.declared.refusal.Refusal.TheVariants.{MalformedName, OutOfRange, WrongLength, NoSuchBlock, NoFreeInode, NoFreeBlock, NotDue, UnderWay, NoneWaiting, DeviceFull}
-use Rattle.layout.specs.Shapes.{slots}
 use Rattle.layout.specs.Entries.{empty, entry_of}
 use Rattle.layout.specs.Names.{proper, padded}
 use Rattle.device.specs.Meaning.{waits}

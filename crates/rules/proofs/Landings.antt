@@ -2,7 +2,6 @@
 use Rattle.std.proofs.Common.{◌≡◌, ℕ, zero, suc, ◌<◌, true, false, not, eqb, ◌≢◌, List, [], ◌∷◌, length, get_or, set, Some, None, unwrap_or, sym, refl, ap, ◌∙◌, subst, inl, inr, arith}
 use Rattle.std.specs.List.{remove}
 use Rattle.std.proofs.lemmas.Bool.{and_parts, or_cases, or_parts, not-true, both_ways, true≢false, eq-eqb, ne_eqb, eqb-true, cond-true, cond-false}
-use Rattle.soundness.specs.Media.{block}
 use Rattle.device.specs.declared.types.Write.{Write}
 use Rattle.device.specs.Meaning.{Meaning, Kept, Lands, waits, apart, landed}
 use Rattle.device.proofs.Waits.{waits_at}

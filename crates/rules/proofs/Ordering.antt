@@ -13,7 +13,7 @@ use Rattle.layout.specs.Inodes.{present, links, pointer, inode_of}
 use Rattle.layout.specs.Entries.{empty, target}
 use Rattle.layout.proofs.Coded.{pointer_back}
 use Rattle.rules.specs.Views.{slot_of, has_file, part_of}
-use Rattle.rules.specs.Standing.{confirmed, firm, stands}
+use Rattle.rules.specs.Standing.{confirmed, firm}
 use Rattle.rules.specs.States.{State, is_filled}
 use Rattle.rules.specs.References.{leads, view_leads, stands_at, held, anchored, vacant, shown_at}
 use Rattle.rules.specs.Kinds.{entries, pointers, inode_in, reach, claimed, in_use, pointer_goes, pointer_ready, entry_goes, entry_ready}

@@ -1,5 +1,5 @@
 -- The two kinds of references, directory entries and block pointers: when one may go, and when its target is ready.
-use Rattle.std.specs.Prelude.{ℕ, ◌*◌, ◌/◌, ◌%◌, Bool, true, not, ◌&&◌, ◌||◌, List, ◌==◌, nat_le, nat_lt}
+use Rattle.std.specs.Prelude.{ℕ, ◌*◌, ◌/◌, ◌%◌, Bool, true, not, ◌&&◌, ◌||◌, List, ◌==◌, nat_eq, nat_le, nat_lt}
 use Rattle.std.specs.Str.{bytes_eq}
 use Rattle.finite.specs.Finite.{exists, count}
 use Rattle.blocks.specs.Bytes.{Block, quarter}
@@ -37,7 +37,7 @@ pointers g =
       home = λ q. inode_block (q / 6);
       read = λ c q. pointer (inode_in c (q / 6)) (q % 6);
       seen = λ v q. part_of v (q / 6) (q % 6);
-      same = eqb;
+      same = nat_eq;
       empty = λ b. (b == 0);
       target = λ b. b;
     }

@@ -1,4 +1,6 @@
 // The rules of the store: what every call answers and changes, and what every block that it sends holds.
+#![tactic(auto)]
+
 ghost use Rattle.rules.specs.Allowed.{CallsAreChanges};
 ghost use Rattle.rules.specs.Effects.{CallsInPlainWords};
 ghost use Rattle.rules.specs.Example.{WorkedExample};

@@ -1,4 +1,6 @@
 // Sound media, and the judgement of any.
+#![tactic(auto)]
+
 mod head;
 mod inodes;
 mod judgement;

@@ -31,27 +31,27 @@ module _ {D : Type 0} (g : Ghosts D) where
   meaning d = means g.medium g.waiting g.size g.depth d
 
   -- the medium is that of the device below
-  abbrev pub medium_of : Staging D → List Block
+  abbrev pub medium_of : Staging D g → List Block
   medium_of s = g.medium s.inner
 
   -- the writes below wait longer than those in the queue
-  abbrev pub waiting_of : Staging D → List Write
+  abbrev pub waiting_of : Staging D g → List Write
   waiting_of s = g.waiting s.inner ++ vec_items s.queue
 
   -- the size is that of the device below
-  abbrev pub size_of : Staging D → ℕ
+  abbrev pub size_of : Staging D g → ℕ
   size_of s = g.size s.inner
 
   -- the queue makes the device deeper
-  abbrev pub depth_of : Staging D → ℕ
+  abbrev pub depth_of : Staging D g → ℕ
   depth_of s = deeper (g.depth s.inner)
 
   -- the device below is valid, and the queue stands in order above it
-  abbrev pub Valid : Staging D → Type 0
+  abbrev pub Valid : Staging D g → Type 0
   Valid s = g.valid s.inner × Staged (meaning s.inner) s.room (vec_items s.queue)
 
 -- a staging device keeps what every device keeps
-pub staged_kept : {D : Type 0} (g : Ghosts D) (s : Staging D) → Valid g s → Kept (means (medium_of g) (waiting_of g) (size_of g) (depth_of g) s)
+pub staged_kept : {D : Type 0} (g : Ghosts D) (s : Staging D g) → Valid g s → Kept (means (medium_of g) (waiting_of g) (size_of g) (depth_of g) s)
 staged_kept g s v =
     let low = g.kept s.inner v.0 in
     let long = length-append (g.waiting s.inner) s.queue.items in
@@ -66,10 +66,10 @@ staged_kept g s v =
     }
 
 -- what a staging device says of itself, as the device below another says it
-abbrev pub stacked : {D : Type 0} → Ghosts D → Ghosts (Staging D)
+abbrev pub stacked : {D : Type 0} → (g : Ghosts D) → Ghosts (Staging D g)
 stacked g = record { medium = medium_of g; waiting = waiting_of g; size = size_of g; depth = depth_of g; valid = Valid g; kept = staged_kept g }
 
 -- a new staging device holds no write, so it means what the device below means, and is deeper
-pub record Fresh {D : Type 0} (g : Ghosts D) (d : D) (s : Staging D) : Type 0 where
+pub record Fresh {D : Type 0} (g : Ghosts D) (d : D) (s : Staging D g) : Type 0 where
   pub same : meaning (stacked g) s ≡ record { medium = g.medium d; waiting = g.waiting d; size = g.size d; depth = deeper (g.depth d) }
   pub valid : (stacked g).valid s

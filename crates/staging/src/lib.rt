@@ -1,4 +1,6 @@
 // A plain queue above any device, which is a device again.
+#![tactic(auto)]
+
 mod staging;
 mod types;
 

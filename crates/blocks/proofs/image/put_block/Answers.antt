@@ -2,4 +2,4 @@ use Rattle.blocks.proofs.Images.{lent}
 use Rattle.blocks.proofs.image.put_block.Goals as goal
 
 pub returns : goal.returns
-returns c = lent c.args.image.now c.args.bytes.now c.args.b c.requires.within c.told-bytes c.write-block.new.part c.write-block.ensures
+returns c = lent c.args.image.now c.args.bytes.now c.args.b c.requires.within c.told-bytes c.write_block.new.part c.write_block.ensures

@@ -7,6 +7,6 @@ pub returns : goal.returns
 returns c =
     let i = c.args.inode in
     let name = c.args.name.now in
-    let value : c.low.result ∷ c.high.result ∷ (c.copy-from-slice.new.self ++ []) ≡ entry_of i name =
-    λ j. c.low.ensures j ∷ c.high.ensures j ∷ (append-nil c.copy-from-slice.new.self ∙ c.copy-from-slice.ensures.after) j in
+    let value : c.low.result ∷ c.high.result ∷ (c.copy_from_slice.new.self ++ []) ≡ entry_of i name =
+    λ j. c.low.ensures j ∷ c.high.ensures j ∷ (append-nil c.copy_from_slice.new.self ∙ c.copy_from_slice.ensures.after) j in
     record { value = value; back = (ap target value ∙ target_back i name, ap title value ∙ title_back i name c.told-name) }

@@ -6,5 +6,5 @@ pub returns : goal.returns
 returns c =
     let text = c.args.text.now in
     let long : length text - 0 ≡ length text = omega arith in
-    ap (λ part. part ++ drop (length text - 0) (replicate 14 0)) c.copy-from-slice.ensures.after
+    ap (λ part. part ++ drop (length text - 0) (replicate 14 0)) c.copy_from_slice.ensures.after
     ∙ ap (λ n. text ++ drop n (replicate 14 0)) long ∙ filled_up text c.requires.few

@@ -8,8 +8,8 @@ use Rattle.bottoms.proofs.Landing.{inside_taken}
 use Rattle.bottoms.proofs.banked.cuts.land.Goals as goal
 use Rattle.bottoms.proofs.banked.cuts.land.Goals.{then-bits-eq1, else-bits-eq1}
 
-pub put-block-requires : goal.put-block-requires
-put-block-requires c =
+pub put_block-requires : goal.put_block-requires
+put_block-requires c =
     let below = inside_taken c.args.size c.args.queue.now c.loop-w.w-index c.w-item.result c.requires.inside c.loop-w-test.true c.w-item.is in
     omega (arith, below, c.requires.long)
 
@@ -23,7 +23,7 @@ loop-w-preserved c =
     let count = count_step q i b w c.loop-w-test.true c.w-item.is in
     elim c.if-bits-eq1.branch [
       | then-bits-eq1 v ↦ (
-        c.loop-w.invariant.0 ∙ image ∙ ap (cut_image (b / 2) (drop (i + 1) q)) (cond-true _ _ _ (eq-eqb (b % 2) 1 v.if-bits-eq1.true) ∙ sym (v.image-is ∙ v.put-block.ensures)),
+        c.loop-w.invariant.0 ∙ image ∙ ap (cut_image (b / 2) (drop (i + 1) q)) (cond-true _ _ _ (eq-eqb (b % 2) 1 v.if-bits-eq1.true) ∙ sym (v.image-is ∙ v.put_block.ensures)),
         omega (arith, c.loop-w.invariant.1, count, v.count-is, v.if-bits-eq1.true),
         omega (arith, c.loop-w.invariant.2, v.count-is),
       )

@@ -1,7 +1,6 @@
 use Rattle.std.proofs.Common.{ltb, sym, ap, ◌∙◌}
 use Rattle.blocks.specs.Bits.{packed}
 use Rattle.layout.specs.Shaped.{shape}
-use Rattle.layout.specs.Shapes.{first_data}
 use Rattle.layout.specs.Fresh.{fresh_block}
 use Rattle.blocks.proofs.Packed.{packed-table}
 use Rattle.layout.proofs.types.Geometry.fresh_block.Goals as goal
@@ -14,6 +13,6 @@ returns-in-1 c =
 pub returns-in-2 : goal.returns-in-2
 returns-in-2 c =
     let marks = c.below-in-2.result.marks in
-    c.bytes-in-2.ensures.value ∙ packed-table marks (λ n. ltb n c.first-data.result) c.below-in-2.ensures
-    ∙ ap (λ end. packed (λ n. ltb n end)) c.first-data.ensures
+    c.bytes-in-2.ensures.value ∙ packed-table marks (λ n. ltb n c.first_data.result) c.below-in-2.ensures
+    ∙ ap (λ end. packed (λ n. ltb n end)) c.first_data.ensures
     ∙ ap (fresh_block (shape c.args.self.now)) (sym c.in-2.is)

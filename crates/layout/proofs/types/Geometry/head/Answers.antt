@@ -7,5 +7,5 @@ use Rattle.layout.proofs.types.Geometry.head.Goals as goal
 pub returns : goal.returns
 returns c =
     let g = c.args.self.now in
-    let value = c.head-bytes.ensures ∙ head_spelled (shape g) (good g) in
+    let value = c.head_bytes.ensures ∙ head_spelled (shape g) (good g) in
     record { value = value; back = ap head_shape value ∙ head_back (shape g) (good g) }

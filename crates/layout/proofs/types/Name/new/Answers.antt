@@ -4,13 +4,13 @@ use Rattle.finite.proofs.Tables.{length-table}
 use Rattle.layout.proofs.Titles.{proper_well_formed, proper_short}
 use Rattle.layout.proofs.types.Name.new.Goals as goal
 
-pub invariant-of-result : goal.invariant-of-result
+pub invariant_of-result : goal.invariant_of-result
 unfolding padded
-invariant-of-result c =
-    let text = c.args.text.now in (
-      ap well_formed c.fill-up.ensures ∙ proper_well_formed text (sym c.if-not-is-proper.ensures),
-      (ap length c.fill-up.ensures ∙ length-table 14 (λ (k : ℕ). get_or text k 0), tt),
-    )
+invariant_of-result c =
+    let text = c.args.text.now in record {
+      formed = ap well_formed c.fill_up.ensures ∙ proper_well_formed text (sym c.if-not-is_proper.ensures);
+      long = ap length c.fill_up.ensures ∙ length-table 14 (λ (k : ℕ). get_or text k 0);
+    }
 
-pub fill-up-requires : goal.fill-up-requires
-fill-up-requires c = record { few = proper_short c.args.text.now (sym c.if-not-is-proper.ensures) }
+pub fill_up-requires : goal.fill_up-requires
+fill_up-requires c = record { few = proper_short c.args.text.now (sym c.if-not-is_proper.ensures) }

@@ -6,14 +6,14 @@ use Rattle.layout.specs.Shaped.{shape}
 use Rattle.soundness.specs.Media.{names}
 use Rattle.soundness.proofs.Tallies.{Counted, one_more, none_held, none_led}
 use Rattle.soundness.proofs.medium.Medium.count_names.Goals as goal
-use Rattle.soundness.proofs.medium.Medium.count_names.Goals.{in-Some+then-i-lt32, in-Some+else-i-lt32, in-default}
+use Rattle.soundness.proofs.medium.Medium.count_names.Goals.{in-Some+then-i-lt32, in-Some+else-i-lt32, in_default}
 
 pub loop-s-init : goal.loop-s-init
 unfolding count
 loop-s-init c = (refl, λ i h. get_or-replicate 32 i 0 0 h)
 
-pub overflow-add-named : goal.overflow-add-named
-overflow-add-named c =
+pub overflow_add-named : goal.overflow_add-named
+overflow_add-named c =
     let m = c.args.self.now in
     let i = c.word-i.result in
     let tally = c.loop-s.invariant.1 i c.if-i-lt32.true in
@@ -36,5 +36,5 @@ loop-s-preserved c =
       | in-Some+else-i-lt32 w ↦
           subst After (sym w.named-is)
           (none_led g m s named c.loop-s.invariant w.in-Some.entry w.word-i.result w.in-Some.ensures.0 w.word-i.ensures.value w.if-i-lt32.false)
-      | in-default w ↦ subst After (sym w.named-is) (none_held g m s named c.loop-s.invariant w.in-default.ensures)
+      | in_default w ↦ subst After (sym w.named-is) (none_held g m s named c.loop-s.invariant w.in_default.ensures)
     ]

@@ -1,4 +1,4 @@
-use Rattle.std.proofs.Common.{◌≡◌, ◌<◌, ◌++◌, length, Ok, sym, refl, ap, ◌∙◌, arith}
+use Rattle.std.proofs.Common.{◌≡◌, ◌<◌, length, Ok, sym, refl, ap, ◌∙◌, arith}
 use Rattle.std.proofs.lemmas.List.{length-append, get_or_append_left, nil_from_length}
 use Rattle.std.proofs.lemmas.Bool.{eqb-true, eqb-false}
 use Rattle.device.specs.Meaning.{Lands, submit_answer, submitted}
@@ -6,15 +6,15 @@ use Rattle.staging.specs.Staged.{Valid, above, meaning}
 use Rattle.staging.proofs.Moves.{Passed, idle, less, less_above, passed, restaged}
 use Rattle.staging.proofs.staging.StagingDevice.collect.Goals as goal
 
-pub returns-then-not-is-empty : goal.returns-then-not-is-empty
-returns-then-not-is-empty g c =
+pub returns-then-not-is_empty : goal.returns-then-not-is_empty
+returns-then-not-is_empty g c =
     let s = c.args.self.now in
     let d = meaning g.D.Device s.inner in
     let mid = meaning g.D.Device c.collect.new.self in
     let queue = s.queue.items in
     let q = c.remove-oldest.result in
     let rest = c.remove-oldest.ensures.items in
-    let some : 0 < length queue = omega (arith, s.queue.ok.0, eqb-false _ 0 (sym c.if-not-is-empty.ensures)) in
+    let some : 0 < length queue = omega (arith, s.queue.ok.0, eqb-false _ 0 (sym c.if-not-is_empty.ensures)) in
     let l : Valid g.D.Device s → Lands d c.in-Some.block mid = λ v. c.in-Some.ensures.cases v.0 in
     let p : (v : Valid g.D.Device s) → Passed d s.room queue (l v).place (l v).write q =
     λ v. passed d s.room queue (l v).place (l v).write q v.1 (l v).within (g.D.Device.kept s.inner v.0).few some c.remove-oldest.ensures.value in
@@ -34,12 +34,12 @@ returns-then-not-is-empty g c =
       valid = λ v. (c.submit.ensures.valid (c.collect.ensures.valid v.0), restaged (down v) rest (p v).staged);
     }
 
-pub returns-else-not-is-empty : goal.returns-else-not-is-empty
-returns-else-not-is-empty g c =
+pub returns-else-not-is_empty : goal.returns-else-not-is_empty
+returns-else-not-is_empty g c =
     let s = c.args.self.now in
     let d = meaning g.D.Device s.inner in
     let queue = s.queue.items in
-    let none = nil_from_length queue (sym s.queue.ok.0 ∙ eqb-true _ 0 (sym c.if-not-is-empty.ensures)) in
+    let none = nil_from_length queue (sym s.queue.ok.0 ∙ eqb-true _ 0 (sym c.if-not-is_empty.ensures)) in
     record {
       cases = λ v.
           let l = c.in-Some.ensures.cases v.0 in

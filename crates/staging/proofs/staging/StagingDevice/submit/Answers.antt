@@ -1,4 +1,4 @@
-use Rattle.std.proofs.Common.{◌≡◌, ◌<◌, ◌≤◌, false, [], ◌∷◌, ◌++◌, length, sym, refl, ap, ◌∙◌, arith}
+use Rattle.std.proofs.Common.{◌≡◌, ◌<◌, ◌≤◌, false, ◌++◌, length, sym, refl, ap, ◌∙◌, arith}
 use Rattle.std.proofs.lemmas.List.{length-append}
 use Rattle.device.specs.Meaning.{waits}
 use Rattle.device.proofs.Waits.{waits_left}
@@ -13,9 +13,9 @@ returns-then-len-self g c =
     let b = w.block in
     let d = meaning g.D.Device s.inner in
     let queue = s.queue.items in
-    let refused = sym c.if-is-ok.ensures.value in
+    let refused = sym c.if-is_ok.ensures.value in
     let in-range : Valid g.D.Device s → b < d.size = λ v. omega (arith, c.blocks-2.ensures v.0) in
-    let free : Valid g.D.Device s → waits (d.waiting ++ queue) b ≡ false = λ v. sym (c.if-is-waiting.ensures v) in
+    let free : Valid g.D.Device s → waits (d.waiting ++ queue) b ≡ false = λ v. sym (c.if-is_waiting.ensures v) in
     let full : Valid g.D.Device s → d.depth ≤ length d.waiting = λ v. full_below d b c.submit.result (in-range v) (waits_left d.waiting queue b (free v)) (c.submit.ensures.answer v.0) refused in
     let same : Valid g.D.Device s → meaning g.D.Device c.submit.new.self ≡ d = λ v. c.submit.ensures.after v.0 ∙ refused_keeps c.submit.result d w refused in
     record {
@@ -31,10 +31,10 @@ returns g c =
     let b = w.block in
     let d = meaning g.D.Device s.inner in
     let queue = s.queue.items in
-    let refused = sym c.if-is-ok.ensures.value in
-    let longer = c.push-reserved.ensures.items in
+    let refused = sym c.if-is_ok.ensures.value in
+    let longer = c.push_reserved.ensures.items in
     let in-range : Valid g.D.Device s → b < d.size = λ v. omega (arith, c.blocks-2.ensures v.0) in
-    let free : Valid g.D.Device s → waits (d.waiting ++ queue) b ≡ false = λ v. sym (c.if-is-waiting.ensures v) in
+    let free : Valid g.D.Device s → waits (d.waiting ++ queue) b ≡ false = λ v. sym (c.if-is_waiting.ensures v) in
     let full : Valid g.D.Device s → d.depth ≤ length d.waiting = λ v. full_below d b c.submit.result (in-range v) (waits_left d.waiting queue b (free v)) (c.submit.ensures.answer v.0) refused in
     let same : Valid g.D.Device s → meaning g.D.Device c.submit.new.self ≡ d = λ v. c.submit.ensures.after v.0 ∙ refused_keeps c.submit.result d w refused in
     record {

@@ -24,10 +24,10 @@ below c =
     let s = c.args.self.now in
     inside_taken s.size s.queue.items c.in-Some.place c.remove-w.result s.inside (within (goal.at.After-remove-w c).In-Some) c.remove-w.ensures.value
 
-pub returns-in-default : goal.returns-in-default
-returns-in-default c =
+pub returns-in_default : goal.returns-in_default
+returns-in_default c =
     let s = c.args.self.now in
-    let none : None ≡ picked s.queue.items s.next = picked_same _ s.queue.items s.next _ c.deref.ensures.value c.in-default.ensures in
+    let none : None ≡ picked s.queue.items s.next = picked_same _ s.queue.items s.next _ c.deref.ensures.value c.in_default.ensures in
     record {
       cases = λ _. (picked_none s.queue.items s.next (sym none), refl);
       valid = λ _. tt;
@@ -38,20 +38,20 @@ returns-in-default c =
 pub remove-w-requires : goal.remove-w-requires
 remove-w-requires c = omega (arith, within (goal.at.remove-w-requires c).In-Some, c.args.self.now.queue.ok.0)
 
-pub put-block-requires : goal.put-block-requires
-put-block-requires c =
+pub put_block-requires : goal.put_block-requires
+put_block-requires c =
     let s = c.args.self.now in
-    omega (arith, below (goal.at.put-block-requires c).After-remove-w, ap length c.deref-mut.ensures.value, s.image.ok.0, s.whole)
+    omega (arith, below (goal.at.put_block-requires c).After-remove-w, ap length c.deref_mut.ensures.value, s.image.ok.0, s.whole)
 
-pub invariant-of-self : goal.invariant-of-self
-invariant-of-self c =
+pub invariant_of-self : goal.invariant_of-self
+invariant_of-self c =
     let s = c.args.self.now in
     let now = c.remove-w.new.self.items in
     let rest = remove s.queue.items c.in-Some.place in
     let e = c.remove-w.ensures.items in
     let inside = inside_same now rest e s.size (inside_removed s.size s.queue.items c.in-Some.place s.inside) in
     let apart = apart_same now rest e (apart_removed s.queue.items c.in-Some.place s.distinct) in
-    (s.whole, (omega arith, (omega arith, (inside, (apart, (omega arith, tt))))))
+    record { whole = s.whole; fits = omega arith; reserved = omega arith; inside = inside; distinct = apart; channel = omega arith }
 
 pub returns : goal.returns
 returns c =
@@ -60,7 +60,7 @@ returns c =
     let here = within (goal.at.returns c).In-Some in
     let lands =
     landed_is s.image s.size w _ (below (goal.at.returns c).After-remove-w) (omega arith)
-    (c.put-block.ensures ∙ ap (λ i. with_block i w.block w.bytes) c.deref-mut.ensures.value) in
+    (c.put_block.ensures ∙ ap (λ i. with_block i w.block w.bytes) c.deref_mut.ensures.value) in
     let leaves = c.remove-w.ensures.items in
     record {
       cases = λ _. record {

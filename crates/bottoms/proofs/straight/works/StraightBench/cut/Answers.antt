@@ -16,7 +16,7 @@ returns c =
     let odd : m % 2 ≡ 1 = omega arith in
     let count : 1 ≡ m % 2 + 0 = omega arith in
     let lands =
-    landed_is s.image s.size w _ inside (omega arith) (c.put-block.ensures ∙ ap (λ i. with_block i w.block w.bytes) c.deref-mut.ensures.value)
+    landed_is s.image s.size w _ inside (omega arith) (c.put_block.ensures ∙ ap (λ i. with_block i w.block w.bytes) c.deref_mut.ensures.value)
     ∙ sym (cond-true _ _ _ (eq-eqb (m % 2) 1 odd))
     ∙ sym (ap (λ o. cut_medium m (option_to_list o) (image_blocks s.size s.image.items)) was) in
     let none = ap option_to_list c.take.ensures.after in

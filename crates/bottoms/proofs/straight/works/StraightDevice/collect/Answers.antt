@@ -11,7 +11,7 @@ returns c =
     let w = c.in-Some.w in
     let was = sym c.in-Some.ensures.value in
     let inside : w.block < s.size = inside_one s.size s.pending w was s.inside in
-    let lands = landed_is s.image s.size w _ inside (omega arith) (c.put-block.ensures ∙ ap (λ i. with_block i w.block w.bytes) c.deref-mut.ensures.value) in
+    let lands = landed_is s.image s.size w _ inside (omega arith) (c.put_block.ensures ∙ ap (λ i. with_block i w.block w.bytes) c.deref_mut.ensures.value) in
     let leaves = ap option_to_list c.take.ensures.after ∙ sym (ap (λ o. remove (option_to_list o) 0) was) in
     record {
       cases = λ _. record {

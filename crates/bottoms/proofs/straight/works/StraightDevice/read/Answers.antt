@@ -9,7 +9,7 @@ returns c =
     let s = c.args.self.now in
     let b = c.args.block in
     let below = c.if-block-self.false in
-    let block = c.get-block.ensures ∙ ap (λ l. image_block l b) c.deref.ensures.value ∙ sym (image_block_at s.size s.image.items b [] below) in
+    let block = c.get_block.ensures ∙ ap (λ l. image_block l b) c.deref.ensures.value ∙ sym (image_block_at s.size s.image.items b [] below) in
     record {
       answer = λ _. ap Ok block ∙ cond_below b s.size _ _ below;
       after = λ _. refl;
