@@ -4,8 +4,8 @@
 usage: python3 tools/respell.py        once, at the top, right after the kit's own script has turned the rest
 
 A type or a fact is in upper camel case (Verdict-is-right becomes VerdictIsRight); every other word is in snake case
-(image-block becomes image_block, quarterOf becomes quarter_of), but in DASHED, where the dash joins the names of two
-definitions, as the library's own lemmas are named (length-image-block becomes length-image_block). Comments, strings, functions of src/
+(image-block becomes image_block, quarterOf becomes quarter_of), but in DASHED, where a dash stays between the two things
+that a lemma relates, as in the library's own lemmas (length-image-block becomes length-image_block). Comments, strings, functions of src/
 and the names that the check makes for its goals keep their spelling. It stops where two names would fall together.
 """
 
@@ -18,7 +18,7 @@ DECLARED = re.compile(r"[ ]*(?:(?:abbrev|unfoldable|pub|data|record|module) +)*(
 ALIAS = re.compile(r"\bas ([a-z]+(?:Of|In))\b")
 # an alias that would fall together with a definition, and its name
 APART = {"inodeOf": "inode_on"}
-# lemmas whose name joins the names of two definitions, as length of a table: the dash between the two stays
+# lemmas that relate two things, as the length and a table: the dash between the two stays
 DASHED = {
     "length-table", "getD-table", "length-image-block", "length-image-blocks", "length-with-block", "length-joined", "length-quarter", "length-written",
     "length-blocks", "length-stepped", "quarter-joined", "digit-le", "digit-eqb", "octet-digit", "bit-packed", "bit-digit", "packed-bit", "packed-table", "waits-append",
