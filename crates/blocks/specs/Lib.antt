@@ -1,3 +1,4 @@
 pub mod Bytes
 pub mod Bits
 pub mod Images
+pub mod Maps

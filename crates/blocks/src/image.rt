@@ -2,7 +2,7 @@
 ghost use Rattle.std.specs.Prelude.{◌≡◌, ◌+◌, ◌*◌, ◌≤◌, ◌++◌, length, drop};
 ghost use Rattle.blocks.specs.Images.{image_block, with_block};
 
-use crate::bytes::Block;
+use crate::bytes::{Block, part};
 
 // Writes a block at the beginning of the part of an image that is lent.
 pub fn write_block(part: &mut [u8], bytes: &Block)
@@ -25,7 +25,5 @@ pub fn get_block(image: &[u8], b: usize) -> Block
     requires within { 64 * b + 64 ≤ length image.now }
     ensures { result ≡ image_block image.now b }
 {
-    let mut block = [0u8; 64];
-    block.copy_from_slice(&image[64 * b..64 * b + 64]);
-    block
+    part(image, 64 * b)
 }

@@ -4,9 +4,7 @@
 mod bytes;
 mod image;
 mod map;
-mod types;
 
-pub use bytes::{Block, Quarter, high, is_zero, low, quarter, word};
+pub use bytes::{Block, Quarter, high, is_zero, low, part, quarter, word};
 pub use image::{get_block, put_block, write_block};
-pub use map::bit;
-pub use types::Map;
+pub use map::{Map, bit};

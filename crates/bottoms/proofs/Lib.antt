@@ -1,3 +1,3 @@
+pub mod Found
 pub mod Landing
-pub mod Cutting
 pub mod Picks

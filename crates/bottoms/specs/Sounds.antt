@@ -5,7 +5,8 @@ use Rattle.std.specs.Option.{option_to_list}
 use Rattle.blocks.proofs.Images.{length-image_blocks, image_blocks_whole}
 use Rattle.device.specs.Meaning.{Kept, apart, inside}
 use Rattle.device.specs.declared.types.Write.{Write}
-use Rattle.bottoms.specs.Means.{over, straight_means, banked_means}
+use Rattle.bottoms.specs.Used.{used, over}
+use Rattle.bottoms.specs.Means.{straight_means, banked_means}
 use Rattle.bottoms.specs.declared.banked.Banked.{Banked}
 use Rattle.bottoms.specs.declared.straight.Straight.{Straight}
 
@@ -39,7 +40,8 @@ one_few (Some w) = omega arith
 -- a device with room for one waiting write keeps it
 pub straight_kept : (s : Straight) → Kept (straight_means s)
 straight_kept s =
-    image_kept s.size 1 (vec_items s.image) (option_to_list s.pending) (used_fits s.size s.image.len (vec_items s.image) s.image.ok.0 s.whole)
+    let image = vec_items s.image.0 in
+    image_kept (used image) 1 image (option_to_list s.pending) (used_fits (used image) (length image) image refl refl)
     (one_apart s.pending) s.inside (one_few s.pending) (omega arith) (omega arith)
 
 -- eight writes at most are as many as the buffer of the writes is long
@@ -49,5 +51,6 @@ eight_few len ws e h = omega arith
 -- a device with four channels keeps it
 pub banked_kept : (s : Banked) → Kept (banked_means s)
 banked_kept s =
-    image_kept s.size 8 (vec_items s.image) (vec_items s.queue) (used_fits s.size s.image.len (vec_items s.image) s.image.ok.0 s.whole)
+    let image = vec_items s.image.0 in
+    image_kept (used image) 8 image (vec_items s.queue) (used_fits (used image) (length image) image refl refl)
     s.distinct s.inside (eight_few s.queue.len (vec_items s.queue) s.queue.ok.0 s.fits) (omega arith) (omega arith)

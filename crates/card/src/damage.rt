@@ -8,9 +8,10 @@ pub(crate) struct Damage(pub(crate) &'static str, usize, usize, u8);
 impl Damage {
     // A copy of the table with this damage.
     pub(crate) fn done_to(&self, table: &[Block; 128]) -> [Block; 128] {
+        let Damage(_, block, byte, value) = *self;
         let mut damaged = *table;
-        if self.1 < 128 && self.2 < 64 {
-            damaged[self.1][self.2] = self.3;
+        if block < 128 && byte < 64 {
+            damaged[block][byte] = value;
         }
         damaged
     }

@@ -1,35 +1,33 @@
 // Devices that keep one meaning and land waiting writes in different orders.
+use crate::show::Answer;
 use anyhow::anyhow;
 use bottoms::{Banked, Straight};
 use device::{Bench, Device, Write};
+use layout::Refusal;
 use staging::Staging;
 
-// Submits a block whose bytes are all its own number; the answer is 0 or the refusal's number.
-fn send<D: Device>(device: &mut D, block: usize) -> u8 {
+// Submits a block whose bytes are all its own number.
+fn send<D: Device>(device: &mut D, block: usize) -> Result<(), Refusal> {
     let bytes = [(block % 256) as u8; 64];
-    match device.submit(Write { block, bytes }) {
-        Ok(()) => 0,
-        Err(refusal) => refusal.number(),
-    }
+    device.submit(Write { block, bytes })
 }
 
 // The first byte of a block, as it stands on the medium.
-fn first_byte<D: Device>(device: &mut D, block: usize) -> u8 {
-    match device.read(block) {
-        Ok(bytes) => bytes[0],
-        Err(_) => 0,
-    }
+fn first_byte<D: Device>(device: &mut D, block: usize) -> Result<u8, Refusal> {
+    Ok(device.read(block)?[0])
 }
 
 // Submits 42, then 17, and tells them as they land.
 fn show_landings<D: Device>(rt: &HostRuntime, what: &str, device: &mut D) -> anyhow::Result<()> {
     let first = send(device, 42);
     let second = send(device, 17);
-    print!(rt; "{what}: 42 gets {first}, 17 gets {second}; landed:")?;
-    for _ in 0..2 {
-        if let Some(block) = device.collect() {
-            print!(rt; " {block}")?;
-        }
+    print!(rt;
+        "{what}: 42 gets {}, 17 gets {}; landed:",
+        Answer(&first),
+        Answer(&second)
+    )?;
+    while let Some(block) = device.collect() {
+        print!(rt; " {block}")?;
     }
     println!(rt; "")?;
     Ok(())
@@ -38,12 +36,12 @@ fn show_landings<D: Device>(rt: &HostRuntime, what: &str, device: &mut D) -> any
 // Submits 42, 17 and 5, and cuts the power so that the first and the third land.
 fn show_cut(rt: &HostRuntime, board: &mut Banked) -> anyhow::Result<()> {
     for block in [42, 17, 5] {
-        let _ = send(board, block);
+        send(board, block)?;
     }
     let landed = board.cut(0b101);
-    let a = first_byte(board, 42);
-    let b = first_byte(board, 17);
-    let c = first_byte(board, 5);
+    let a = first_byte(board, 42)?;
+    let b = first_byte(board, 17)?;
+    let c = first_byte(board, 5)?;
     println!(rt;
         "42, 17 and 5 wait, cut with mask 5: {landed} landed; 42 holds {a}, 17 holds {b}, 5 holds {c}"
     )?;

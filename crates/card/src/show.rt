@@ -1,17 +1,19 @@
 // What the program prints.
 use blocks::Block;
-use layout::{Geometry, Region};
+use layout::{Geometry, Refusal};
 use soundness::judge;
+use std::fmt;
 
-fn title(region: Region) -> &'static str {
-    match region {
-        Region::Head => "head",
-        Region::InodeMap => "inode map",
-        Region::BlockMap => "block map",
-        Region::Inodes => "inodes",
-        Region::Directory => "directory",
-        Region::Data => "data",
-        Region::Outside => "outside",
+// What a call answered, as a read-out has it: 0, or the refusal.
+#[derive(Drop)]
+pub(crate) struct Answer<'a, T>(pub(crate) &'a Result<T, Refusal>);
+
+impl<T> fmt::Display for Answer<'_, T> {
+    fn fmt<W: fmt::Write>(&self, f: &mut fmt::Formatter<W>) -> fmt::Result {
+        match self.0 {
+            Ok(_) => f.write_str("0"),
+            Err(refusal) => write!(f, "{refusal}"),
+        }
     }
 }
 
@@ -32,7 +34,7 @@ pub(crate) fn show_blocks(
     image: &[u8],
 ) -> anyhow::Result<()> {
     for (b, block) in image.chunks(64).enumerate() {
-        println!(rt; "block {b}: {}", title(geometry.region(b)))?;
+        println!(rt; "block {b}: {}", geometry.region(b))?;
         let mut above: &[u8] = &[];
         for row in block.chunks(16) {
             if row != above {
@@ -51,19 +53,8 @@ pub(crate) fn show_verdict(
     size: usize,
 ) -> anyhow::Result<()> {
     match judge(table, size) {
-        Ok(geometry) => println!(rt;
-            "{what}: sound, with {} blocks, {} inodes, {} for the directory",
-            geometry.blocks, geometry.inodes, geometry.directory
-        )?,
-        Err(refusal) => match refusal.place() {
-            Some(place) => println!(rt;
-                "{what}: {} at block {}, byte {}",
-                refusal.number(),
-                place.block,
-                place.byte
-            )?,
-            None => println!(rt; "{what}: {}", refusal.number())?,
-        },
+        Ok(geometry) => println!(rt; "{what}: sound, with {}", geometry.shape)?,
+        Err(refusal) => println!(rt; "{what}: {refusal}")?,
     }
     Ok(())
 }

@@ -1,7 +1,6 @@
 -- Lists of waiting writes: what stays true when one joins, leaves, or moves from one list to the next.
-use Rattle.std.proofs.Common.{◌≡◌, ℕ, zero, suc, ◌+◌, ◌<◌, Bool, true, false, not, ◌||◌, eqb, ltb, List, [], ◌∷◌, ◌++◌, length, get_or, drop, sym, refl, ap, ◌∙◌, arith}
-use Rattle.std.specs.List.{remove}
-use Rattle.std.proofs.lemmas.List.{drop_more}
+use Rattle.std.proofs.Common.{◌≡◌, ℕ, zero, suc, ◌<◌, Bool, true, false, not, ◌||◌, eqb, ltb, List, [], ◌∷◌, ◌++◌, length, get_or, sym, refl, ap, ◌∙◌, arith}
+use Rattle.std.specs.List.{list_any, remove}
 use Rattle.std.proofs.lemmas.Bool.{and_parts, and_from, or_parts, or_from, or_left, or_right, not-true, not_from_false, ltb-true, lt-ltb, eq-eqb, both_ways}
 use Rattle.device.specs.declared.types.Write.{Write}
 use Rattle.device.specs.Meaning.{waits, apart, inside}
@@ -36,10 +35,10 @@ waits_removed (w ∷ ws) (suc i) k h =
     let parts = or_parts (eqb w.block k) _ h in
     or_from (eqb w.block k) _ parts.0 (waits_removed ws i k parts.1)
 
--- one more write searched
-pub waits_step : (ws : List Write) (i b : ℕ) (w : Write) → i < length ws → w ≡ get_or ws i w
-    → waits (drop i ws) b ≡ (eqb w.block b || waits (drop (i + 1) ws) b)
-waits_step ws i b w h e = ap (λ l. waits l b) (drop_more ws i w h ∙ ap (λ x. x ∷ drop (i + 1) ws) (sym e))
+-- a search of the whole list finds what waits
+pub waits_any : (ws : List Write) (b : ℕ) → list_any (λ w. eqb w.block b) ws ≡ waits ws b
+waits_any [] b = refl
+waits_any (w ∷ ws) b = ap (λ t. eqb w.block b || t) (waits_any ws b)
 
 pub waits_at : (ws : List Write) (i : ℕ) (d : Write) → i < length ws → waits ws (get_or ws i d).block ≡ true
 waits_at [] i d h = absurd (omega arith)

@@ -8,10 +8,5 @@ use crate::types::Write;
 pub fn is_among(writes: &[Write], block: usize) -> bool
     ensures { result ≡ waits writes.now block }
 {
-    for w in writes {
-        if w.block == block {
-            return true;
-        }
-    }
-    false
+    writes.iter().any(|w| w.block == block)
 }

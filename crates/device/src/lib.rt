@@ -15,7 +15,7 @@ mod types;
 pub use among::is_among;
 pub use types::Write;
 
-// Every clause holds of a valid device, and leaves a valid one.
+// What a device means is told by its first four ghost members; each call is told by what it does to that.
 pub trait Device {
     ghost medium: { Self → List (List ℕ) };
 
@@ -25,46 +25,39 @@ pub trait Device {
 
     ghost depth: { Self → ℕ };
 
-    // What an implementation keeps of its own parts.
-    ghost valid: { Self → Type 0 };
-
-    // What every implementation shows of its meaning, and generic code may use without asking.
-    ghost kept: { (d : Self) → valid d → Kept (means medium waiting size depth d) };
-
     // How many blocks there are.
     fn blocks(&self) -> usize
-        ensures { valid self.now → result ≡ size self.now };
+        ensures { result ≡ size self.now };
 
     // How many writes may wait.
     fn slots(&self) -> usize
-        ensures { valid self.now → result ≡ depth self.now };
+        ensures { result ≡ depth self.now };
 
     // Whether a write of this block waits.
     fn is_waiting(&self, block: usize) -> bool
-        ensures { valid self.now → result ≡ waits (waiting self.now) block };
+        ensures { result ≡ waits (waiting self.now) block };
 
     // Puts a write at the end of those that wait.
     fn submit(&mut self, write: Write) -> Result<(), Refusal>
-        ensures answer { valid self.old → result ≡ submit_answer (means medium waiting size depth self.old) write.block }
-        ensures after { valid self.old → means medium waiting size depth self.new ≡ submitted result (means medium waiting size depth self.old) write }
-        ensures valid { valid self.old → valid self.new };
+        ensures answer { result ≡ submit_answer (means medium waiting size depth self.old) write.block }
+        ensures after { means medium waiting size depth self.new ≡ submitted result (means medium waiting size depth self.old) write };
 
     // Lands one waiting write, of the device's own choice, and tells its block.
     fn collect(&mut self) -> Option<usize>
-        ensures cases { valid self.old → Collected (means medium waiting size depth self.old) result (means medium waiting size depth self.new) }
-        ensures valid { valid self.old → valid self.new };
+        ensures { Collected (means medium waiting size depth self.old) result (means medium waiting size depth self.new) };
 
     // A block of the medium. A device that is driven through registers changes them to read, so it is lent for writing.
     fn read(&mut self, block: usize) -> Result<Block, Refusal>
-        ensures answer { valid self.old → result ≡ read_answer (means medium waiting size depth self.old) block }
-        ensures after { valid self.old → means medium waiting size depth self.new ≡ means medium waiting size depth self.old }
-        ensures valid { valid self.old → valid self.new };
+        ensures answer { result ≡ read_answer (means medium waiting size depth self.old) block }
+        ensures after { means medium waiting size depth self.new ≡ means medium waiting size depth self.old };
+
+    // What every implementation shows of its meaning, and generic code may use without asking.
+    ghost kept: { (d : Self) → Kept (means medium waiting size depth d) };
 }
 
 // A device whose power can be cut: the writes whose bit is set in the mask land, the others are lost.
 pub trait Bench: Device {
     fn cut(&mut self, mask: u8) -> u8
-        ensures count { Self.Device.valid self.old → result ≡ cut_count mask (Self.Device.waiting self.old) }
-        ensures after { Self.Device.valid self.old → means Self.Device.medium Self.Device.waiting Self.Device.size Self.Device.depth self.new ≡ cut_of mask (means Self.Device.medium Self.Device.waiting Self.Device.size Self.Device.depth self.old) }
-        ensures valid { Self.Device.valid self.old → Self.Device.valid self.new };
+        ensures count { result ≡ cut_count mask (Self.Device.waiting self.old) }
+        ensures after { means Self.Device.medium Self.Device.waiting Self.Device.size Self.Device.depth self.new ≡ cut_of mask (means Self.Device.medium Self.Device.waiting Self.Device.size Self.Device.depth self.old) };
 }

@@ -1,2 +1,4 @@
 pub mod Decided
 pub mod Tables
+pub mod Asked
+pub mod Made

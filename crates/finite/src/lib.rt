@@ -1,55 +1,31 @@
-// Tests of the numbers below a limit: a type says what it tests, and these functions go through them once.
+// Tests of the numbers below a limit, decided by going through them once.
 #![tactic(auto)]
 
 ghost use Rattle.std.specs.Prelude.{◌≡◌, ℕ, ◌<◌, Bool, IfSome};
 ghost use Rattle.finite.specs.Finite.{every as every_of, exists as exists_of, lowest as lowest_of};
+ghost use Rattle.finite.specs.Tests.{Takes, Tells};
 
-pub trait Test {
-    ghost limit: { Self → ℕ };
-
-    ghost holds: { Self → ℕ → Bool };
-
-    fn limit(&self) -> usize
-        ensures { result ≡ limit self.now };
-
-    fn holds(&self, n: usize) -> bool
-        requires within { n < limit self.now }
-        ensures { result ≡ holds self.now n };
+// Whether the test holds of every number below the limit.
+pub fn every<F: Fn(usize) -> bool>(limit: usize, test: F) -> bool
+    requires { Takes limit (F.pre test) }
+    ensures { (p : ℕ → Bool) → Tells limit (F.post test) p → result ≡ every_of limit p }
+{
+    (0..limit).all(test)
 }
 
-// Whether the test holds of every number.
-pub fn every<T: Test>(t: &T) -> bool
-    ensures { result ≡ every_of (T.Test.limit t.now) (T.Test.holds t.now) }
+// Whether the test holds of some number below the limit.
+pub fn exists<F: Fn(usize) -> bool>(limit: usize, test: F) -> bool
+    requires { Takes limit (F.pre test) }
+    ensures { (p : ℕ → Bool) → Tells limit (F.post test) p → result ≡ exists_of limit p }
 {
-    for n in 0..t.limit() {
-        if !t.holds(n) {
-            return false;
-        }
-    }
-    true
+    (0..limit).any(test)
 }
 
-// Whether the test holds of some number.
-pub fn exists<T: Test>(t: &T) -> bool
-    ensures { result ≡ exists_of (T.Test.limit t.now) (T.Test.holds t.now) }
+// The lowest number below the limit of which the test holds.
+pub fn lowest<F: Fn(usize) -> bool>(limit: usize, test: F) -> Option<usize>
+    requires { Takes limit (F.pre test) }
+    ensures value { (p : ℕ → Bool) → Tells limit (F.post test) p → result ≡ lowest_of limit p }
+    ensures within { IfSome result (λ k. k < limit) }
 {
-    for n in 0..t.limit() {
-        if t.holds(n) {
-            return true;
-        }
-    }
-    false
-}
-
-// The lowest number of which the test holds.
-pub fn lowest<T: Test>(t: &T) -> Option<usize>
-    ensures value { result ≡ lowest_of (T.Test.limit t.now) (T.Test.holds t.now) }
-    ensures within { IfSome result (λ k. k < T.Test.limit t.now) }
-{
-    for n in 0..t.limit() {
-        if t.holds(n) {
-            return Some(n);
-        }
-    }
-    None
+    (0..limit).position(test)
 }

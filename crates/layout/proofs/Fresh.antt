@@ -1,27 +1,13 @@
 -- The blocks of an empty card.
 use Rattle.std.proofs.Common.{◌≡◌, ℕ, ◌+◌, ◌*◌, ◌<◌, eqb, ltb, ◌∷◌, length, replicate, refl, arith}
 use Rattle.std.proofs.lemmas.Bool.{cond_both}
-use Rattle.layout.specs.declared.types.Geometry.{Geometry}
 use Rattle.blocks.specs.Bytes.{Block, low, high}
 use Rattle.blocks.specs.Bits.{packed}
-use Rattle.layout.specs.Shapes.{Shape, Good, first_data}
-use Rattle.layout.specs.Shaped.{shape}
+use Rattle.layout.specs.declared.geometry.Shape.{Shape}
+use Rattle.layout.specs.Shapes.{Good, first_data}
 use Rattle.layout.specs.Heads.{head_of, head_shape}
 use Rattle.layout.specs.Fresh.{fresh_block}
 use Rattle.finite.proofs.Tables.{length-table}
-
--- a geometry is good by its type
-pub good : (g : Geometry) → Good (shape g)
-good g = record {
-  blocks_low = g.blocks_low;
-  blocks_high = g.blocks_high;
-  inodes_low = g.inodes_low;
-  inodes_high = g.inodes_high;
-  inodes_even = g.inodes_even;
-  directory_low = g.directory_low;
-  directory_high = g.directory_high;
-  room = g.room;
-}
 
 module _ (g : Shape) (good : Good g) where
   small : (n : ℕ) → n < 256 → (n ≡ low n) × (0 ≡ high n)

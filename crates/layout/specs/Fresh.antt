@@ -4,7 +4,8 @@ use Rattle.blocks.specs.Bytes.{Block}
 use Rattle.blocks.specs.Bits.{packed}
 use Rattle.blocks.specs.Images.{with_blocks}
 use Rattle.layout.specs.Heads.{head_of}
-use Rattle.layout.specs.Shapes.{Shape, first_data}
+use Rattle.layout.specs.declared.geometry.Shape.{Shape}
+use Rattle.layout.specs.Shapes.{first_data}
 
 -- block b of an empty card, before the data area: nothing is marked but inode 0 and these blocks, and there is no inode and no entry
 abbrev pub fresh_block : Shape → ℕ → Block

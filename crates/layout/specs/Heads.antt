@@ -1,7 +1,7 @@
 -- The head of a card: the letters FST, a zero byte, the version, the geometry, and zeros.
 use Rattle.std.specs.Prelude.{◌∷◌, replicate}
 use Rattle.blocks.specs.Bytes.{Block, low, high, word}
-use Rattle.layout.specs.Shapes.{Shape}
+use Rattle.layout.specs.declared.geometry.Shape.{Shape}
 
 -- the head of a card of version 1
 abbrev pub head_of : Shape → Block

@@ -5,5 +5,4 @@ pub mod Entries
 pub mod Heads
 pub mod Fresh
 pub mod Refusals
-pub mod Shaped
 pub mod Regions

@@ -2,7 +2,8 @@
 use Rattle.std.specs.Prelude.{ℕ, cond, ◌==◌, nat_lt}
 use Rattle.layout.specs.declared.region.Region.{Region}
 use Rattle.layout.specs.declared.region.Region.TheVariants.{Head, InodeMap, BlockMap, Inodes, Directory, Data, Outside}
-use Rattle.layout.specs.Shapes.{Shape, first_directory, first_data}
+use Rattle.layout.specs.declared.geometry.Shape.{Shape}
+use Rattle.layout.specs.Shapes.{first_directory, first_data}
 
 -- the region that block b lies in
 abbrev pub region : Shape → ℕ → Region

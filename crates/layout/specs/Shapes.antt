@@ -1,11 +1,6 @@
 -- The geometry of a card, and the block ranges that follow from it.
 use Rattle.std.specs.Prelude.{◌≡◌, ℕ, ◌+◌, ◌*◌, ◌/◌, ◌%◌, ◌<◌, ◌≤◌, Bool, ◌&&◌, ◌==◌, nat_le, nat_lt}
-
--- how many blocks the card has, how many inodes, and how many directory blocks
-pub record Shape : Type 0 where
-  pub blocks : ℕ
-  pub inodes : ℕ
-  pub directory : ℕ
+use Rattle.layout.specs.declared.geometry.Shape.{Shape}
 
 -- the limits of a geometry
 pub record Good (g : Shape) : Type 0 where

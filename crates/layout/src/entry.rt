@@ -1,14 +1,15 @@
 // A directory entry, and its 16 bytes.
-ghost use Rattle.std.specs.Prelude.{◌≡◌, false, MatchOption};
+ghost use Rattle.std.specs.Prelude.{◌≡◌, false, MatchResult};
 ghost use Rattle.std.specs.Str.{bytes_eq};
 ghost use Rattle.layout.specs.Names.{well_formed};
-ghost use Rattle.layout.specs.Entries.{target, title as title_in, entry_of};
+ghost use Rattle.layout.specs.Entries.{title as title_in, IsEntry};
 
-use crate::types::Name;
-use blocks::{Quarter, high, low, word};
+use crate::malformed::Malformed;
+use crate::name::Name;
+use blocks::{Quarter, high, low, part, word};
 
 // An entry leads a name to an inode.
-#[derive(Clone, Copy)]
+#[derive(Clone, Copy, Debug, PartialEq, Eq)]
 pub struct Entry {
     pub inode: u16,
     pub name: Name,
@@ -18,55 +19,40 @@ pub struct Entry {
 pub fn title(slot: &Quarter) -> [u8; 14]
     ensures { result ≡ title_in slot.now }
 {
-    let mut bytes = [0u8; 14];
-    bytes.copy_from_slice(&slot[2..16]);
-    bytes
-}
-
-fn same_bytes(a: &[u8; 14], b: &[u8; 14]) -> bool
-    ensures { result ≡ bytes_eq a.now b.now }
-{
-    *a == *b
+    part(slot, 2)
 }
 
 // Whether a slot's name has these 14 bytes.
 pub fn has_title(slot: &Quarter, name: &[u8; 14]) -> bool
     ensures { result ≡ bytes_eq name.now (title_in slot.now) }
 {
-    same_bytes(name, &title(slot))
+    *name == title(slot)
 }
 
-fn entry_bytes(inode: u16, name: &[u8; 14]) -> Quarter
-    ensures value { result ≡ entry_of inode name.now }
-    ensures back { (target result ≡ inode) × (title_in result ≡ name.now) }
-{
-    let mut out = [0u8; 16];
-    out[0] = low(inode);
-    out[1] = high(inode);
-    out[2..16].copy_from_slice(name);
-    out
-}
+// The 16 bytes of an entry; read again they tell the same.
+impl From<&Entry> for Quarter {
+    ghost from_gives = { λ entry bytes. IsEntry entry.now.inode entry.now.name.bytes bytes };
 
-impl Entry {
-    // The 16 bytes of an entry; read again they tell the same.
-    pub fn bytes(&self) -> Quarter
-        ensures value { result ≡ entry_of self.now.inode self.now.name.bytes }
-        ensures back { (target result ≡ self.now.inode) × (title_in result ≡ self.now.name.bytes) }
-    {
-        entry_bytes(self.inode, &self.name.bytes)
+    fn from(entry: &Entry) -> Quarter {
+        let mut bytes = [0u8; 16];
+        bytes[0] = low(entry.inode);
+        bytes[1] = high(entry.inode);
+        bytes[2..16].copy_from_slice(&entry.name.bytes);
+        bytes
     }
+}
 
-    // The entry that 16 bytes are, if their name is well formed.
-    pub fn read(bytes: &Quarter) -> Option<Entry>
-        ensures { MatchOption result (well_formed (title_in bytes.now) ≡ false)
-            (λ e. (e.inode ≡ target bytes.now) × (e.name.bytes ≡ title_in bytes.now) × (entry_of e.inode e.name.bytes ≡ bytes.now)) }
-    {
-        match Name::read(&title(bytes)) {
-            Some(name) => Some(Entry {
-                inode: word(bytes, 0),
-                name,
-            }),
-            None => None,
-        }
+// The entry that 16 bytes are, if their name is well formed.
+impl TryFrom<&Quarter> for Entry {
+    type Error = Malformed;
+
+    ghost try_from_gives = { λ bytes result. MatchResult result (λ e. IsEntry e.inode e.name.bytes bytes.now) (λ _. well_formed (title_in bytes.now) ≡ false) };
+
+    fn try_from(bytes: &Quarter) -> Result<Entry, Malformed> {
+        let name = Name::try_from(title(bytes))?;
+        Ok(Entry {
+            inode: word(bytes, 0),
+            name,
+        })
     }
 }

@@ -1,62 +1,60 @@
 // The inode of a file, and its 16 bytes.
-ghost use Rattle.std.specs.Prelude.{◌≡◌, ℕ, ◌<◌, true, false, MatchOption, slice_index};
-ghost use Rattle.layout.specs.Inodes.{is_file, links as links_in, pointer, inode_of};
+ghost use Rattle.std.specs.Prelude.{◌≡◌, false, length, MatchResult};
+ghost use Rattle.layout.specs.Inodes.{is_file, IsFile};
 
-use crate::types::Inode;
+use crate::malformed::Malformed;
 use blocks::{Quarter, high, low, word};
+use std::array::from_fn;
 
-fn file_bytes(links: u16, pointers: &[u16; 6]) -> Quarter
-    ensures value { result ≡ inode_of links pointers.now }
-    ensures back { (is_file result ≡ true) × (links_in result ≡ links) × ((k : ℕ) → k < 6 → pointer result k ≡ slice_index pointers.now k) }
-{
-    let [a, b, c, d, e, f] = *pointers;
-    [
-        1,
-        0,
-        low(links),
-        high(links),
-        low(a),
-        high(a),
-        low(b),
-        high(b),
-        low(c),
-        high(c),
-        low(d),
-        high(d),
-        low(e),
-        high(e),
-        low(f),
-        high(f),
-    ]
+// The inode of a file. A pointer of 0 leads to no block.
+#[derive(Clone, Copy, Debug, PartialEq, Eq)]
+pub struct Inode {
+    pub links: u16,
+    pub pointers: [u16; 6],
+    ghost six: { length pointers ≡ 6 },
 }
 
-impl Inode {
-    // The 16 bytes of a file's inode; read again they tell the same.
-    pub fn bytes(&self) -> Quarter
-        ensures value { result ≡ inode_of self.now.links self.now.pointers }
-        ensures back { (is_file result ≡ true) × (links_in result ≡ self.now.links) × ((k : ℕ) → k < 6 → pointer result k ≡ slice_index self.now.pointers k) }
-    {
-        file_bytes(self.links, &self.pointers)
-    }
+// The 16 bytes of a file's inode; read again they tell the same.
+impl From<&Inode> for Quarter {
+    ghost from_gives = { λ inode bytes. IsFile inode.now.links inode.now.pointers bytes };
 
-    // The inode that 16 bytes are, if they are a file's.
-    pub fn read(bytes: &Quarter) -> Option<Inode>
-        ensures { MatchOption result (is_file bytes.now ≡ false) (λ n. (is_file bytes.now ≡ true) × (inode_of n.links n.pointers ≡ bytes.now)) }
-    {
+    fn from(inode: &Inode) -> Quarter {
+        let n = inode.links;
+        let [a, b, c, d, e, f] = inode.pointers;
+        [
+            1,
+            0,
+            low(n),
+            high(n),
+            low(a),
+            high(a),
+            low(b),
+            high(b),
+            low(c),
+            high(c),
+            low(d),
+            high(d),
+            low(e),
+            high(e),
+            low(f),
+            high(f),
+        ]
+    }
+}
+
+// The inode that 16 bytes are, if they are a file's.
+impl TryFrom<&Quarter> for Inode {
+    type Error = Malformed;
+
+    ghost try_from_gives = { λ bytes result. MatchResult result (λ n. IsFile n.links n.pointers bytes.now) (λ _. is_file bytes.now ≡ false) };
+
+    fn try_from(bytes: &Quarter) -> Result<Inode, Malformed> {
         if bytes[0] != 1 || bytes[1] != 0 {
-            return None;
+            return Err(Malformed);
         }
-        let pointers = [
-            word(bytes, 4),
-            word(bytes, 6),
-            word(bytes, 8),
-            word(bytes, 10),
-            word(bytes, 12),
-            word(bytes, 14),
-        ];
-        Some(Inode {
+        Ok(Inode {
             links: word(bytes, 2),
-            pointers,
+            pointers: from_fn(|k| word(bytes, 4 + 2 * k)),
         })
     }
 }

@@ -5,13 +5,16 @@ mod empty;
 mod entry;
 mod geometry;
 mod inode;
+mod malformed;
 mod name;
 mod refusal;
 mod region;
-mod types;
 
 pub use empty::prepare;
 pub use entry::{Entry, has_title, title};
+pub use geometry::{Geometry, Shape};
+pub use inode::Inode;
+pub use malformed::Malformed;
+pub use name::Name;
 pub use refusal::{Place, Refusal};
 pub use region::Region;
-pub use types::{Geometry, Inode, Name};

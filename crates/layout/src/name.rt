@@ -1,69 +1,52 @@
 // Names: 1 to 14 printable bytes, kept filled up with zeros.
-ghost use Rattle.std.specs.Prelude.{◌≡◌, ◌≤◌, true, false, length, MatchOption, MatchResult, slice_index};
-ghost use Rattle.layout.specs.Names.{printable, proper, padded, goes_on, well_formed};
+ghost use Rattle.std.specs.Prelude.{◌≡◌, ◌<◌, ◌≤◌, true, false, length, MatchResult, slice_index};
+ghost use Rattle.finite.specs.Finite.{every as every_of};
+ghost use Rattle.layout.specs.Names.{printable, proper, padded, goes_on as goes_on_of, well_formed};
 ghost use Rattle.layout.specs.declared.refusal.Refusal.TheVariants.{MalformedName};
 
+use crate::malformed::Malformed;
 use crate::refusal::Refusal;
-use crate::types::Name;
-use finite::{Test, every};
+use finite::every;
+
+// A name as it is kept: filled up with zeros to 14 bytes.
+#[derive(Clone, Copy, Debug, PartialEq, Eq)]
+pub struct Name {
+    pub bytes: [u8; 14],
+    ghost formed: { well_formed bytes ≡ true },
+    ghost long: { length bytes ≡ 14 },
+}
 
 fn is_printable(c: u8) -> bool
     ensures { result ≡ printable c }
 {
-    c >= 0x21 && c <= 0x7e
+    c.is_ascii_graphic()
 }
 
-// The bytes of a text that a name may hold.
-#[derive(Clone, Copy)]
-struct Printable<'a> {
-    text: &'a [u8],
-}
-
-impl Test for Printable<'_> {
-    ghost limit = { λ t. length t.text.now };
-
-    ghost holds = { λ t k. printable (slice_index t.text.now k) };
-
-    fn limit(&self) -> usize {
-        self.text.len()
-    }
-
-    fn holds(&self, n: usize) -> bool {
-        is_printable(self.text[n])
-    }
+fn is_all_printable(text: &[u8]) -> bool
+    ensures { result ≡ every_of (length text.now) (λ k. printable (slice_index text.now k)) }
+{
+    text.iter().all(|&c| is_printable(c))
 }
 
 fn is_proper(text: &[u8]) -> bool
     ensures { result ≡ proper text.now }
 {
-    (text.len() >= 1 && text.len() <= 14) && every(&Printable { text })
+    (text.len() >= 1 && text.len() <= 14) && is_all_printable(text)
 }
 
-// The places of a kept name after which it ends, or goes on with a byte of a name.
-#[derive(Clone, Copy)]
-struct GoesOn<'a> {
-    title: &'a [u8; 14],
-}
-
-impl Test for GoesOn<'_> {
-    ghost limit = { λ t. 13 };
-
-    ghost holds = { λ t k. goes_on t.title.now k };
-
-    fn limit(&self) -> usize {
-        13
-    }
-
-    fn holds(&self, n: usize) -> bool {
-        let next = self.title[n + 1];
-        next == 0 || (is_printable(next) && self.title[n] != 0)
-    }
+// Whether the byte after place k ends a kept name, or goes on with it.
+fn goes_on(title: &[u8; 14], k: usize) -> bool
+    requires { k < 13 }
+    ensures { result ≡ goes_on_of title.now k }
+{
+    let next = title[k + 1];
+    next == 0 || (is_printable(next) && title[k] != 0)
 }
 
 fn is_well_formed(title: &[u8; 14]) -> bool
     ensures { result ≡ well_formed title.now }
 {
-    is_printable(title[0]) && every(&GoesOn { title })
+    is_printable(title[0]) && every(13, |k| goes_on(title, k))
 }
 
 fn fill_up(text: &[u8]) -> [u8; 14]
@@ -75,12 +58,14 @@ fn fill_up(text: &[u8]) -> [u8; 14]
     bytes
 }
 
-impl Name {
-    // The name that a host gives, or a refusal.
-    pub fn new(text: &[u8]) -> Result<Name, Refusal>
-        ensures { MatchResult result (λ n. (proper text.now ≡ true) × (n.bytes ≡ padded text.now))
-            (λ e. (proper text.now ≡ false) × (e ≡ MalformedName)) }
-    {
+// The name that a host gives, or a refusal.
+impl TryFrom<&[u8]> for Name {
+    type Error = Refusal;
+
+    ghost try_from_gives = { λ text result. MatchResult result (λ n. (proper text.now ≡ true) × (n.bytes ≡ padded text.now))
+        (λ e. (proper text.now ≡ false) × (e ≡ MalformedName)) };
+
+    fn try_from(text: &[u8]) -> Result<Name, Refusal> {
         if !is_proper(text) {
             return Err(Refusal::MalformedName);
         }
@@ -88,15 +73,19 @@ impl Name {
             bytes: fill_up(text),
         })
     }
+}
 
-    // The name that 14 kept bytes are, if they are one.
-    pub fn read(bytes: &[u8; 14]) -> Option<Name>
-        ensures { MatchOption result (well_formed bytes.now ≡ false) (λ n. n.bytes ≡ bytes.now) }
-    {
-        if is_well_formed(bytes) {
-            Some(Name { bytes: *bytes })
+// The name that 14 kept bytes are, if they are one.
+impl TryFrom<[u8; 14]> for Name {
+    type Error = Malformed;
+
+    ghost try_from_gives = { λ bytes result. MatchResult result (λ n. n.bytes ≡ bytes) (λ _. well_formed bytes ≡ false) };
+
+    fn try_from(bytes: [u8; 14]) -> Result<Name, Malformed> {
+        if is_well_formed(&bytes) {
+            Ok(Name { bytes })
         } else {
-            None
+            Err(Malformed)
         }
     }
 }

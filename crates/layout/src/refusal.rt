@@ -2,14 +2,23 @@
 ghost use Rattle.std.specs.Prelude.{◌≡◌};
 ghost use Rattle.layout.specs.Refusals.{number as number_of, place as place_of};
 
+use std::error::Error;
+use std::fmt;
+
 // The first byte of what is at fault on a medium.
-#[derive(Clone, Copy)]
+#[derive(Clone, Copy, Debug, PartialEq, Eq)]
 pub struct Place {
     pub block: usize,
     pub byte: usize,
 }
 
-#[derive(Clone, Copy)]
+impl fmt::Display for Place {
+    fn fmt<W: fmt::Write>(&self, f: &mut fmt::Formatter<W>) -> fmt::Result {
+        write!(f, "block {}, byte {}", self.block, self.byte)
+    }
+}
+
+#[derive(Clone, Copy, Debug, PartialEq, Eq)]
 pub enum Refusal {
     // the host asked for what cannot be
     MalformedName,
@@ -102,3 +111,15 @@ impl Refusal {
         }
     }
 }
+
+// The number, and where a medium is at fault.
+impl fmt::Display for Refusal {
+    fn fmt<W: fmt::Write>(&self, f: &mut fmt::Formatter<W>) -> fmt::Result {
+        match self.place() {
+            Some(place) => write!(f, "{} at {place}", self.number()),
+            None => write!(f, "{}", self.number()),
+        }
+    }
+}
+
+impl Error for Refusal {}

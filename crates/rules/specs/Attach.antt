@@ -4,7 +4,8 @@ use Rattle.finite.specs.Finite.{exists, count, table}
 use Rattle.blocks.specs.Bytes.{Block}
 use Rattle.layout.specs.declared.refusal.Refusal.{Refusal}
 use Rattle.layout.specs.declared.refusal.Refusal.TheVariants.{NotAttached, AlreadyAttached}
-use Rattle.layout.specs.Shapes.{Shape, first_data, slots}
+use Rattle.layout.specs.declared.geometry.Shape.{Shape}
+use Rattle.layout.specs.Shapes.{first_data, slots}
 use Rattle.layout.specs.Heads.{head_shape}
 use Rattle.layout.specs.Inodes.{present, pointer}
 use Rattle.soundness.specs.Media.{Medium, block, inode, slot, names}

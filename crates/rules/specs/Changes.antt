@@ -1,7 +1,7 @@
 -- The primitive changes of a store: every call is a list of these.
 use Rattle.std.specs.Prelude.{ℕ, true, false, cond, List, [], ◌∷◌, replicate, Some, None, Ok, ◌==◌, slice_set}
 use Rattle.blocks.specs.Bytes.{Block}
-use Rattle.layout.specs.Shapes.{Shape}
+use Rattle.layout.specs.declared.geometry.Shape.{Shape}
 use Rattle.layout.specs.Entries.{target, entry_of}
 use Rattle.layout.specs.Names.{padded}
 use Rattle.device.specs.declared.types.Write.{Write}

@@ -1,6 +1,7 @@
 -- A state whose parts have the sizes that its geometry says.
 use Rattle.std.specs.Prelude.{◌≡◌, ℕ, ◌<◌, List, length, Some, None, slice_index_or}
-use Rattle.layout.specs.Shapes.{Shape, Good, slots}
+use Rattle.layout.specs.declared.geometry.Shape.{Shape}
+use Rattle.layout.specs.Shapes.{Good, slots}
 use Rattle.device.specs.Meaning.{Kept}
 use Rattle.rules.specs.Views.{View, slot_of, bytes_of}
 use Rattle.rules.specs.States.{State}

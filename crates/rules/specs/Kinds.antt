@@ -4,7 +4,8 @@ use Rattle.std.specs.Str.{bytes_eq}
 use Rattle.finite.specs.Finite.{exists, count}
 use Rattle.blocks.specs.Bytes.{Block, quarter}
 use Rattle.blocks.specs.Bits.{bit}
-use Rattle.layout.specs.Shapes.{Shape, inode_block, slot_block, slots}
+use Rattle.layout.specs.declared.geometry.Shape.{Shape}
+use Rattle.layout.specs.Shapes.{inode_block, slot_block, slots}
 use Rattle.layout.specs.Inodes.{present, links, pointer}
 use Rattle.layout.specs.Entries.{empty, target}
 use Rattle.rules.specs.Views.{slot_of, part_of, has_file}

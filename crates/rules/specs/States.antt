@@ -1,6 +1,6 @@
 -- The state of a store.
 use Rattle.std.specs.Prelude.{ℕ, Bool, false, List, slice_index_or}
-use Rattle.layout.specs.Shapes.{Shape}
+use Rattle.layout.specs.declared.geometry.Shape.{Shape}
 use Rattle.device.specs.Meaning.{Meaning}
 use Rattle.rules.specs.Views.{View}
 

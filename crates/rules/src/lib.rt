@@ -8,36 +8,26 @@ ghost use Rattle.rules.specs.Landings.{LandingsAgree};
 ghost use Rattle.rules.specs.Ordering.{ImagesAreOrdered};
 
 // The worked example, by computing the rules.
-pub fn worked_example() -> u8
+pub fn worked_example()
     ensures { WorkedExample }
-{
-    0
-}
+{}
 
 // Every call is a list of primitive changes that may be made; a refused one is the empty list.
-pub fn calls_are_changes() -> u8
+pub fn calls_are_changes()
     ensures { CallsAreChanges }
-{
-    0
-}
+{}
 
 // The ordering rules of soft updates, of every image and of everything that is free.
-pub fn images_are_ordered() -> u8
+pub fn images_are_ordered()
     ensures { ImagesAreOrdered }
-{
-    0
-}
+{}
 
 // Standing media are what power cuts leave, and collects are landings, by the device's own meaning.
-pub fn landings_agree() -> u8
+pub fn landings_agree()
     ensures { LandingsAgree }
-{
-    0
-}
+{}
 
 // What a rename and a trim leave, in plain words.
-pub fn calls_in_plain_words() -> u8
+pub fn calls_in_plain_words()
     ensures { CallsInPlainWords }
-{
-    0
-}
+{}

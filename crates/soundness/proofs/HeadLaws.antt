@@ -1,15 +1,12 @@
 -- The head: its fields are within their limits exactly when it tells a good geometry, byte for byte.
-use Rattle.std.proofs.Common.{◌≡◌, ℕ, zero, suc, ◌+◌, ◌*◌, ◌/◌, ◌%◌, ◌<◌, ◌≤◌, List, [], ◌∷◌, length, get_or, replicate, IfOk, Ok, Err, Result, sym, ap, ◌∙◌, not-suc-le-zero, arith, get_or-drop, ext_get_or}
+use Rattle.std.proofs.Common.{◌≡◌, ℕ, zero, suc, ◌+◌, ◌*◌, ◌/◌, ◌%◌, ◌<◌, ◌≤◌, List, [], ◌∷◌, length, get_or, replicate, None, sym, ap, ◌∙◌, not-suc-le-zero, arith, get_or-drop, ext_get_or}
 use lib.ListN.{get_or-replicate}
-use Rattle.std.specs.Result.{result_err}
 use Rattle.std.proofs.lemmas.Slice.Eq.{HasBytesAt}
 use Rattle.std.proofs.lemmas.Bool.Decides.{Decides-and, Decides-eqb, Decides-ltb}
-use Rattle.layout.specs.declared.refusal.Refusal.{Refusal}
 use Rattle.layout.specs.declared.refusal.Refusal.TheVariants.{BadHead}
-use Rattle.layout.specs.declared.types.Geometry.{Geometry}
-use Rattle.layout.specs.Shaped.{shape}
 use Rattle.blocks.specs.Bytes.{Block, word, low, high}
-use Rattle.layout.specs.Shapes.{Shape, Good}
+use Rattle.layout.specs.declared.geometry.Shape.{Shape}
+use Rattle.layout.specs.Shapes.{Good}
 use Rattle.layout.specs.Heads.{head_of, head_shape}
 use Rattle.soundness.specs.Verdict.{at, filling_fault, head_verdict}
 use Rattle.soundness.proofs.Cleared.{Clears, clears_then, clears_found, clears_like, spares_not, decides_leb}
@@ -145,9 +142,5 @@ module _ (head : Block) where
       (λ k _. spares_not _ (Decides-eqb (byte (12 + k)) 0))))))))))
 
   -- an accepted head is the one that its geometry writes
-  pub answer_back : (size : ℕ) → length head ≡ 64 → (r : Result Geometry Refusal) → result_err r ≡ head_verdict head size
-      → IfOk r (λ g. shape g ≡ head_shape head) → IfOk r (λ g. head_of (shape g) ≡ head)
-  answer_back size whole (Ok g) e is =
-      let told = ((clears_head size).0 (sym e)).2 in
-      ap head_of is ∙ sym (ext_get_or 0 head (head_of (head_shape head)) whole (λ k h. told k (omega arith)))
-  answer_back size whole (Err f) e is = tt
+  pub accepted_back : (size : ℕ) → length head ≡ 64 → head_verdict head size ≡ None → head_of (head_shape head) ≡ head
+  accepted_back size whole e = sym (ext_get_or 0 head (head_of (head_shape head)) whole (λ k h. ((clears_head size).0 e).2 k (omega arith)))

@@ -5,7 +5,8 @@ use Rattle.layout.specs.declared.refusal.Refusal.TheVariants.{BadInode, FewLinks
 use Rattle.finite.specs.Finite.{count}
 use Rattle.blocks.specs.Bytes.{zeros}
 use Rattle.blocks.specs.Bits.{bit}
-use Rattle.layout.specs.Shapes.{Shape, slots, inode_block}
+use Rattle.layout.specs.declared.geometry.Shape.{Shape}
+use Rattle.layout.specs.Shapes.{slots, inode_block}
 use Rattle.layout.specs.Inodes.{is_file, links}
 use Rattle.finite.proofs.Decided.{every_at, every_from}
 use Rattle.soundness.specs.Media.{Medium, block, inode, names}

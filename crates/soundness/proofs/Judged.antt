@@ -1,22 +1,22 @@
 -- The law: the verdict names no fault exactly when the medium is sound.
-use Rattle.std.proofs.Common.{◌≡◌, ℕ, ◌<◌, true, not, is_some, is_ok, IfOk, Ok, Err, Decides, Result, sym, refl, ap, ◌∙◌, subst, arith}
+use Rattle.std.proofs.Common.{◌≡◌, ℕ, ◌<◌, true, not, is_some, is_ok, IfOk, Some, None, Ok, Err, Decides, Option, Result, sym, refl, ap, ◌∙◌, subst, arith}
 use Rattle.std.specs.Result.{result_err}
-use Rattle.std.proofs.lemmas.Bool.Decides.{Decides-at}
 use Rattle.blocks.specs.Bits.{bit}
 use Rattle.layout.specs.declared.refusal.Refusal.{Refusal}
-use Rattle.layout.specs.declared.types.Geometry.{Geometry}
-use Rattle.layout.specs.Shapes.{Shape, Good}
-use Rattle.layout.specs.Shaped.{shape}
+use Rattle.layout.specs.declared.geometry.Geometry.{Geometry}
+use Rattle.layout.specs.declared.geometry.Shape.{Shape}
+use Rattle.layout.specs.Shapes.{Good}
 use Rattle.layout.specs.Heads.{head_shape}
 use Rattle.soundness.specs.Media.{Medium, block}
 use Rattle.soundness.specs.Verdict.{body_verdict, verdict}
-use Rattle.soundness.specs.Sound.{SoundAt, Sound, VerdictIsRight}
+use Rattle.soundness.specs.Sound.{SoundAt, Sound, VerdictIsRight, PreparedIsSound}
 use Rattle.soundness.proofs.Cleared.{Clears, clears_first, clears_like, clears_decides}
 use Rattle.soundness.proofs.HeadLaws.{Headed, headed_shape, clears_head}
 use Rattle.soundness.proofs.MapLaws.{Maps, clears_maps}
 use Rattle.soundness.proofs.InodeLaws.{Inodes, Counted, clears_inodes, clears_links}
 use Rattle.soundness.proofs.PointerLaws.{Pointers, OneOwner, clears_pointers}
 use Rattle.soundness.proofs.SlotLaws.{Entries, OneName, clears_slots, clears_names}
+use Rattle.soundness.proofs.PreparedLaws.{prepared_is_sound}
 
 module _ (g : Shape) (m : Medium) where
   -- what the tests of the blocks after the head ask, in their order
@@ -75,20 +75,27 @@ module _ (m : Medium) (size : ℕ) where
       (λ s. let here = sound_told s in ((here.0, here.1.good, here.1.headed), sound_body told m here.1))
       (clears_first _ _ (clears_head (block m 0) size) (λ t. clears_body told m t.1))
 
-pub verdict_is_right : VerdictIsRight
+verdict_is_right : VerdictIsRight
 verdict_is_right m size = clears_decides (verdict m size) (clears_verdict m size)
 
 -- what an answer says that tells the verdict
 module _ (m : Medium) (size : ℕ) where
-  pub answer_decides : (r : Result Geometry Refusal) → result_err r ≡ verdict m size → Decides (is_ok r) (Sound m size)
-  answer_decides r e = Decides-at (is_ok r) (not (is_some (verdict m size))) (ok_is r ∙ ap (λ o. not (is_some o)) e) (verdict_is_right m size)
-    where
-      ok_is : (r : Result Geometry Refusal) → is_ok r ≡ not (is_some (result_err r))
-      ok_is (Ok g) = refl
-      ok_is (Err f) = refl
+  abbrev Judged : Result Geometry Refusal → Type 0
+  Judged r = record {
+    value : result_err r ≡ verdict m size;
+    sound : Decides (is_ok r) (Sound m size);
+    geometry : IfOk r (λ g. SoundAt g.shape m);
+    verdict_law : VerdictIsRight;
+    prepared_law : PreparedIsSound;
+  }
+
+  decides : (o : Option Refusal) → o ≡ verdict m size → Decides (not (is_some o)) (Sound m size)
+  decides o e = subst (λ (told : Option Refusal). Decides (not (is_some told)) (Sound m size)) (sym e) (verdict_is_right m size)
 
   -- an accepted medium is sound at the geometry that is answered
-  pub answer_sound : (r : Result Geometry Refusal) → result_err r ≡ verdict m size → IfOk r (λ g. shape g ≡ head_shape (block m 0)) → IfOk r (λ g. SoundAt (shape g) m)
-  answer_sound (Ok g) e is =
-      subst (λ (s : Shape). SoundAt s m) (sym is) (sound_told m size ((answer_decides (Ok g) e).0 refl)).1
-  answer_sound (Err f) e is = tt
+  pub judged : (r : Result Geometry Refusal) → result_err r ≡ verdict m size → IfOk r (λ g. g.shape ≡ head_shape (block m 0)) → Judged r
+  judged (Ok g) e is =
+      let sound = decides None e in
+      let at = subst (λ (s : Shape). SoundAt s m) (sym is) (sound_told m size (sound.0 refl)).1 in
+      record { value = e; sound = sound; geometry = at; verdict_law = verdict_is_right; prepared_law = prepared_is_sound }
+  judged (Err f) e is = record { value = e; sound = decides (Some f) e; geometry = tt; verdict_law = verdict_is_right; prepared_law = prepared_is_sound }

@@ -7,7 +7,8 @@ use Rattle.finite.specs.Finite.{exists, lowest}
 use Rattle.finite.proofs.Decided.{exists_more, lowest_miss, lowest_hit}
 use Rattle.layout.specs.declared.refusal.Refusal.TheVariants.{BadPointer}
 use Rattle.blocks.specs.Bits.{bit}
-use Rattle.layout.specs.Shapes.{Shape, first_data}
+use Rattle.layout.specs.declared.geometry.Shape.{Shape}
+use Rattle.layout.specs.Shapes.{first_data}
 use Rattle.soundness.specs.Media.{Medium, block}
 use Rattle.soundness.specs.Faults.{pointer_at, marked_data, pointer_fault}
 use Rattle.soundness.specs.Verdict.{found, pointer_place}

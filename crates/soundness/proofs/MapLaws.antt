@@ -6,7 +6,8 @@ use Rattle.layout.specs.declared.refusal.Refusal.TheVariants.{BadMap}
 use Rattle.finite.specs.Finite.{lowest}
 use Rattle.blocks.specs.Bytes.{Block}
 use Rattle.blocks.specs.Bits.{bit}
-use Rattle.layout.specs.Shapes.{Shape, Good, first_data}
+use Rattle.layout.specs.declared.geometry.Shape.{Shape}
+use Rattle.layout.specs.Shapes.{Good, first_data}
 use Rattle.soundness.specs.Media.{Medium, block}
 use Rattle.soundness.specs.Faults.{bit_fault}
 use Rattle.soundness.specs.Verdict.{found, at, map_verdict}

@@ -3,7 +3,8 @@ use Rattle.std.proofs.Common.{◌≡◌, ℕ, ◌+◌, ◌*◌, ◌/◌, ◌%◌
 use Rattle.std.proofs.lemmas.Bool.Decides.{Decides-like, Decides-and, Decides-eqb, Decides-ltb}
 use Rattle.layout.specs.declared.refusal.Refusal.TheVariants.{BadPointer}
 use Rattle.blocks.specs.Bits.{bit}
-use Rattle.layout.specs.Shapes.{Shape, first_data}
+use Rattle.layout.specs.declared.geometry.Shape.{Shape}
+use Rattle.layout.specs.Shapes.{first_data}
 use Rattle.layout.specs.Inodes.{pointer}
 use Rattle.soundness.specs.Media.{Medium, block, inode}
 use Rattle.soundness.specs.Faults.{pointer_at, marked_data, pointer_fault}

@@ -6,7 +6,8 @@ use Rattle.finite.specs.Finite.{count}
 use Rattle.blocks.specs.Bytes.{Block, quarter}
 use Rattle.blocks.specs.Bits.{bit}
 use Rattle.blocks.specs.Images.{image_blocks, with_blocks}
-use Rattle.layout.specs.Shapes.{Shape, Good, first_data, slots, inode_block, slot_block}
+use Rattle.layout.specs.declared.geometry.Shape.{Shape}
+use Rattle.layout.specs.Shapes.{Good, first_data, slots, inode_block, slot_block}
 use Rattle.layout.specs.Inodes.{pointer}
 use Rattle.layout.specs.Fresh.{fresh_block, prepared}
 use Rattle.finite.proofs.Decided.{count_none}

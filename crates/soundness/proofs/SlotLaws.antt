@@ -1,24 +1,31 @@
 -- The slots: each is empty or leads a name to a present inode, and no name stands twice.
-use Rattle.std.proofs.Common.{◌≡◌, ℕ, ◌<◌, false, not, ◌&&◌, ◌⊎◌, List, get_or, Decides, sym, ap, ◌∙◌, subst, inl, inr, arith}
-use Rattle.std.specs.Str.{bytes_eq}
+use Rattle.std.proofs.Common.{◌≡◌, ℕ, ◌+◌, ◌*◌, ◌%◌, ◌<◌, ◌≤◌, true, [], length, ◌⊎◌, List, get_or, Decides, sym, ap, ◌∙◌, subst, inl, inr, arith}
 use Rattle.std.proofs.lemmas.Bool.{cases_Bool, both_ways}
 use Rattle.std.proofs.lemmas.Slice.Eq.{bytes_eq-Decides}
 use Rattle.std.proofs.lemmas.Bool.Decides.{Decides-like, Decides-and, Decides-ltb}
-use Rattle.finite.specs.Finite.{exists}
+use Rattle.std.proofs.lemmas.List.{get_or_past}
+use Rattle.blocks.specs.Bytes.{Block}
 use Rattle.layout.specs.declared.refusal.Refusal.TheVariants.{BadSlot, NameTwice}
-use Rattle.layout.specs.Shapes.{Shape, slots}
+use Rattle.layout.specs.declared.geometry.Shape.{Shape}
+use Rattle.layout.specs.Shapes.{slots, slot_block}
 use Rattle.layout.specs.Inodes.{present}
 use Rattle.layout.specs.Entries.{empty, target, title}
 use Rattle.layout.specs.Names.{Named}
 use Rattle.blocks.proofs.Parts.{part_at}
 use Rattle.layout.proofs.Titles.{named_well_formed, well_formed_named, printable_some}
-use Rattle.soundness.specs.Media.{Medium, inode, slot}
+use Rattle.soundness.specs.Media.{Medium, block, inode, slot}
 use Rattle.soundness.specs.Faults.{leads, slot_fault, same_name, name_fault}
 use Rattle.soundness.specs.Verdict.{slot_place, slot_verdict, name_verdict}
 use Rattle.soundness.specs.Sound.{Blank, Leads}
 use Rattle.soundness.proofs.Cleared.{Spares, Clears, clears_found, clears_like, spares_but, spares_not, spares_no, spares_exists, decides_itself}
 use Rattle.soundness.proofs.InodeLaws.{decides_blank}
 use Rattle.soundness.proofs.Alone.{FirstOf, Carried, alone}
+
+-- past the last block there is no entry
+pub no_entry : (g : Shape) (m : Medium) (s : ℕ) → length m ≤ slot_block g s → empty (slot g m s) ≡ true
+no_entry g m s past =
+    (decides_blank (slot g m s)).1 (λ k h. part_at (block m (slot_block g s)) (16 * (s % 4)) 16 k h
+    ∙ ap (λ (b : Block). get_or b (16 * (s % 4) + k) 0) (get_or_past m (slot_block g s) [] past) ∙ get_or_past [] (16 * (s % 4) + k) 0 (omega arith))
 
 -- a name does not begin with a zero byte, and so a blank slot has none
 blank_title : (bytes : List ℕ) → Blank bytes → Named (title bytes) → ⊥
@@ -87,10 +94,3 @@ module _ (g : Shape) (m : Medium) where
   clears_names entries =
       clears_like (name_verdict g m) (unique_one_name entries) one_name_unique
       (clears_found NameTwice (slot_place g) (slots g) (name_fault g m) Unique (λ s _. spares_name s))
-
-  -- a slot that holds an entry is at fault if an earlier one holds the entry's name
-  pub held_twice : (s : ℕ) (e name : List ℕ) → e ≡ slot g m s → empty e ≡ false → name ≡ title e
-      → exists s (λ t. not (empty (slot g m t)) && bytes_eq name (title (slot g m t))) ≡ name_fault g m s
-  held_twice s e name is held told =
-      ap (λ (n : List ℕ). exists s (λ t. not (empty (slot g m t)) && bytes_eq n (title (slot g m t)))) (told ∙ ap title is)
-      ∙ ap (λ b. not b && exists s (same_name g m s)) (sym held ∙ ap empty is)

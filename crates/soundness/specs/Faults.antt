@@ -4,7 +4,8 @@ use Rattle.std.specs.Str.{bytes_eq}
 use Rattle.finite.specs.Finite.{exists, count}
 use Rattle.blocks.specs.Bytes.{Block, zeros}
 use Rattle.blocks.specs.Bits.{bit}
-use Rattle.layout.specs.Shapes.{Shape, first_data, slots}
+use Rattle.layout.specs.declared.geometry.Shape.{Shape}
+use Rattle.layout.specs.Shapes.{first_data, slots}
 use Rattle.layout.specs.Inodes.{present, is_file, links, pointer}
 use Rattle.layout.specs.Entries.{empty, target, title}
 use Rattle.layout.specs.Names.{well_formed}

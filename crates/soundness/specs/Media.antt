@@ -1,7 +1,8 @@
 -- What stands on a medium: its blocks, and the inodes and slots in them.
 use Rattle.std.specs.Prelude.{ℕ, ◌%◌, Bool, not, ◌&&◌, List, [], ◌==◌, slice_index_or}
 use Rattle.blocks.specs.Bytes.{Block, quarter}
-use Rattle.layout.specs.Shapes.{Shape, inode_block, slot_block}
+use Rattle.layout.specs.declared.geometry.Shape.{Shape}
+use Rattle.layout.specs.Shapes.{inode_block, slot_block}
 use Rattle.layout.specs.Entries.{empty, target}
 
 -- a medium is the list of its blocks

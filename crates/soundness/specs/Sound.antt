@@ -3,7 +3,8 @@ use Rattle.std.specs.Prelude.{◌≡◌, ℕ, ◌*◌, ◌<◌, ◌≤◌, true,
 use Rattle.finite.specs.Finite.{count}
 use Rattle.blocks.specs.Bits.{bit}
 use Rattle.blocks.specs.Images.{image_blocks}
-use Rattle.layout.specs.Shapes.{Shape, Good, first_data, slots}
+use Rattle.layout.specs.declared.geometry.Shape.{Shape}
+use Rattle.layout.specs.Shapes.{Good, first_data, slots}
 use Rattle.layout.specs.Inodes.{present, links, pointer}
 use Rattle.layout.specs.Entries.{target, title}
 use Rattle.layout.specs.Names.{Named}

@@ -6,7 +6,8 @@ use Rattle.layout.specs.declared.refusal.Refusal.TheVariants.{BadSize, BadMagic,
 use Rattle.finite.specs.Finite.{lowest}
 use Rattle.blocks.specs.Bytes.{Block, word}
 use Rattle.layout.specs.Heads.{head_shape}
-use Rattle.layout.specs.Shapes.{Shape, good_blocks, good_inodes, good_directory, first_data, slots, inode_block, slot_block}
+use Rattle.layout.specs.declared.geometry.Shape.{Shape}
+use Rattle.layout.specs.Shapes.{good_blocks, good_inodes, good_directory, first_data, slots, inode_block, slot_block}
 use Rattle.soundness.specs.Media.{Medium, block}
 use Rattle.soundness.specs.Faults.{bit_fault, inode_fault, pointer_fault, slot_fault, name_fault, link_fault}
 

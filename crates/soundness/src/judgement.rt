@@ -1,9 +1,6 @@
 // The judgement of a medium.
 ghost use Rattle.std.specs.Prelude.{◌≡◌, is_ok, IfOk, Decides};
 ghost use Rattle.std.specs.Result.{result_err};
-ghost use Rattle.layout.specs.Heads.{head_shape};
-ghost use Rattle.layout.specs.Shaped.{shape};
-ghost use Rattle.soundness.specs.Media.{block};
 ghost use Rattle.soundness.specs.Verdict.{verdict, body_verdict};
 ghost use Rattle.soundness.specs.Sound.{Sound, SoundAt, VerdictIsRight, PreparedIsSound};
 
@@ -13,9 +10,10 @@ use blocks::Block;
 use layout::{Geometry, Refusal};
 
 impl Medium<'_> {
-    // What the blocks after the head tell.
+    // What the blocks after the head tell. Each check matches on what `lowest` finds: `map_or` takes as many lines there,
+    // and leaves each a proof to write that the `match` does without.
     fn check_body(&self) -> Result<(), Refusal>
-        ensures { result_err result ≡ body_verdict (shape self.now.geometry) self.now.table.now }
+        ensures { result_err result ≡ body_verdict self.now.geometry.shape self.now.table.now }
     {
         self.check_maps()?;
         self.check_inodes()?;
@@ -26,23 +24,16 @@ impl Medium<'_> {
     }
 }
 
-fn look_through(table: &[Block; 128], size: usize) -> Result<Geometry, Refusal>
-    ensures value { result_err result ≡ verdict table.now size }
-    ensures geometry { IfOk result (λ g. shape g ≡ head_shape (block table.now 0)) }
-{
-    let geometry = read_head(&table[0], size)?;
-    let medium = Medium { table, geometry };
-    medium.check_body()?;
-    Ok(geometry)
-}
-
 // Judges the medium of a device of this size, from a table of its blocks: its geometry, or what is at fault, and where.
+// A table and a size, and no slice: the controller has a fixed table, and a device with more blocks is refused by its size.
 pub fn judge(table: &[Block; 128], size: usize) -> Result<Geometry, Refusal>
     ensures value { result_err result ≡ verdict table.now size }
     ensures sound { Decides (is_ok result) (Sound table.now size) }
-    ensures geometry { IfOk result (λ g. SoundAt (shape g) table.now) }
+    ensures geometry { IfOk result (λ g. SoundAt g.shape table.now) }
     ensures verdict_law { VerdictIsRight }
     ensures prepared_law { PreparedIsSound }
 {
-    look_through(table, size)
+    let geometry = read_head(&table[0], size)?;
+    Medium { table, geometry }.check_body()?;
+    Ok(geometry)
 }

@@ -1,66 +1,44 @@
 // The judgement of the two maps.
-ghost use Rattle.std.specs.Prelude.{◌≡◌};
+ghost use Rattle.std.specs.Prelude.{◌≡◌, ◌<◌, ◌/◌};
 ghost use Rattle.std.specs.Result.{result_err};
-ghost use Rattle.layout.specs.Shaped.{shape};
+ghost use Rattle.finite.specs.Finite.{lowest as lowest_of};
+ghost use Rattle.layout.specs.declared.refusal.Refusal.TheVariants.{BadMap};
+ghost use Rattle.soundness.specs.Media.{block as block_on};
 ghost use Rattle.soundness.specs.Faults.{bit_fault};
-ghost use Rattle.soundness.specs.Verdict.{map_verdict};
+ghost use Rattle.soundness.specs.Verdict.{at, found, map_verdict};
 
 use crate::medium::Medium;
 use blocks::{Block, bit};
-use finite::{Test, lowest};
+use finite::lowest;
 use layout::{Place, Refusal};
 
-// The wrong bits of a map: those below `used` must be set, and those from `end` on clear.
-#[derive(Clone, Copy)]
-struct WrongBit<'a> {
-    map: &'a Block,
-    used: usize,
-    end: usize,
-}
-
-impl Test for WrongBit<'_> {
-    ghost limit = { λ t. 512 };
-
-    ghost holds = { λ t n. bit_fault t.map.now t.used t.end n };
-
-    fn limit(&self) -> usize {
-        512
-    }
-
-    fn holds(&self, n: usize) -> bool {
-        let set = bit(self.map, n);
-        if n < self.used {
-            !set
-        } else {
-            n >= self.end && set
-        }
+// Whether bit n of a map is clear below `used`, or set from `end` on.
+fn is_wrong_bit(map: &Block, used: usize, end: usize, n: usize) -> bool
+    ensures { result ≡ bit_fault map.now used end n }
+{
+    if n < used {
+        !bit(map, n)
+    } else {
+        n >= end && bit(map, n)
     }
 }
 
 impl Medium<'_> {
-    pub(crate) fn check_maps(&self) -> Result<(), Refusal>
-        ensures { result_err result ≡ map_verdict (shape self.now.geometry) self.now.table.now }
+    // The map in a block: its bits below `used` must be set, and those from `end` on clear.
+    fn check_map(&self, block: usize, used: usize, end: usize) -> Result<(), Refusal>
+        requires within { block < 128 }
+        ensures { result_err result ≡ found BadMap (λ n. at block (n / 8)) (lowest_of 512 (bit_fault (block_on self.now.table.now block) used end)) }
     {
-        if let Some(n) = lowest(&WrongBit {
-            map: &self.table[1],
-            used: 1,
-            end: self.geometry.inodes,
-        }) {
-            return Err(Refusal::BadMap(Place {
-                block: 1,
-                byte: n / 8,
-            }));
+        match lowest(512, |n| is_wrong_bit(&self.table[block], used, end, n)) {
+            Some(n) => Err(Refusal::BadMap(Place { block, byte: n / 8 })),
+            None => Ok(()),
         }
-        if let Some(n) = lowest(&WrongBit {
-            map: &self.table[2],
-            used: self.geometry.first_data(),
-            end: self.geometry.blocks,
-        }) {
-            return Err(Refusal::BadMap(Place {
-                block: 2,
-                byte: n / 8,
-            }));
-        }
-        Ok(())
+    }
+
+    pub(crate) fn check_maps(&self) -> Result<(), Refusal>
+        ensures { result_err result ≡ map_verdict self.now.geometry.shape self.now.table.now }
+    {
+        self.check_map(1, 1, self.geometry.shape.inodes)?;
+        self.check_map(2, self.geometry.first_data(), self.geometry.shape.blocks)
     }
 }

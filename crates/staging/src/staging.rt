@@ -1,20 +1,27 @@
 // How a staging device works: the device below is filled first, and refilled after each write that lands.
 ghost use Rattle.std.specs.Prelude.{◌≡◌, MatchResult};
-ghost use Rattle.staging.specs.Staged.{Fresh, Valid, depth_of, medium_of, size_of, staged_kept, waiting_of};
+ghost use Rattle.staging.specs.Stacked.{Fresh, depth_of, medium_of, size_of, staged_kept, waiting_of};
 
 use crate::types::Staging;
 use blocks::Block;
-use device::{Device, Write, is_among};
+use device::{Device, Write};
 use layout::Refusal;
 use std::alloc::Global;
+use std::collections::VecDeque;
+
+// The most writes that may wait in any device.
+const MOST_WAITING: usize = 1000;
+
+// The most writes that the queue adds to those of the device below.
+const MOST_ROOM: usize = 8;
 
 impl<D: Device> Staging<D> {
     // A staging device above this one, or this one again where there is no memory.
     pub fn new(heap: Global, inner: D) -> Result<Staging<D>, D>
-        ensures { MatchResult result (λ s. (D.Device.valid inner → Fresh D.Device inner s)) (λ d. d ≡ inner) }
+        ensures { MatchResult result (Fresh D.Device inner) (λ d. d ≡ inner) }
     {
-        let room = 1000usize.saturating_sub(inner.slots()).min(8);
-        let Ok(queue) = Vec::with_capacity(heap, room) else {
+        let room = MOST_WAITING.saturating_sub(inner.slots()).min(MOST_ROOM);
+        let Ok(queue) = VecDeque::with_capacity(heap, room) else {
             return Err(inner);
         };
         Ok(Staging { inner, queue, room })
@@ -30,20 +37,16 @@ impl<D: Device> Device for Staging<D> {
 
     ghost depth = { depth_of D.Device };
 
-    ghost valid = { Valid D.Device };
-
-    ghost kept = { staged_kept D.Device };
-
     fn blocks(&self) -> usize {
         self.inner.blocks()
     }
 
     fn slots(&self) -> usize {
-        self.inner.slots().saturating_add(self.room)
+        self.inner.slots() + self.room
     }
 
     fn is_waiting(&self, block: usize) -> bool {
-        self.inner.is_waiting(block) | is_among(&self.queue, block)
+        self.inner.is_waiting(block) || self.queue.iter().any(|w| w.block == block)
     }
 
     fn submit(&mut self, write: Write) -> Result<(), Refusal> {
@@ -59,16 +62,13 @@ impl<D: Device> Device for Staging<D> {
         if self.queue.len() >= self.room {
             return Err(Refusal::DeviceFull);
         }
-        self.queue.push_reserved(write);
+        self.queue.push_back_reserved(write);
         Ok(())
     }
 
     fn collect(&mut self) -> Option<usize> {
-        let Some(block) = self.inner.collect() else {
-            return None;
-        };
-        if !self.queue.is_empty() {
-            let oldest = self.queue.remove(0);
+        let block = self.inner.collect()?;
+        if let Some(oldest) = self.queue.pop_front() {
             let _ = self.inner.submit(oldest);
         }
         Some(block)
@@ -77,4 +77,6 @@ impl<D: Device> Device for Staging<D> {
     fn read(&mut self, block: usize) -> Result<Block, Refusal> {
         self.inner.read(block)
     }
+
+    ghost kept = { staged_kept _ D.kept };
 }

@@ -1,31 +1,23 @@
 // Which write is taken next.
-ghost use Rattle.std.specs.Prelude.{◌≡◌, ◌<◌};
+ghost use Rattle.std.specs.Prelude.{◌≡◌, ◌<◌, [], length, MatchOption};
 ghost use Rattle.bottoms.specs.Channels.{oldest, picked};
 
 use device::Write;
+
+pub(crate) const CHANNELS: usize = 4;
 
 // The place of the oldest write on a channel.
 fn oldest_on(queue: &[Write], channel: usize) -> Option<usize>
     ensures { result ≡ oldest channel queue.now }
 {
-    for (i, w) in queue.iter().enumerate() {
-        if w.block % 4 == channel {
-            return Some(i);
-        }
-    }
-    None
+    queue.iter().position(|w| w.block % CHANNELS == channel)
 }
 
 // The place of the oldest write of the first channel that has one, from this channel on.
 pub(crate) fn pick(queue: &[Write], next: usize) -> Option<usize>
     requires { next < 4 }
-    ensures { result ≡ picked queue.now next }
+    ensures value { result ≡ picked queue.now next }
+    ensures found { MatchOption result (queue.now ≡ []) (λ k. k < length queue.now) }
 {
-    for step in 0..4usize {
-        let found = oldest_on(queue, (next + step) % 4);
-        if found.is_some() {
-            return found;
-        }
-    }
-    None
+    (0..CHANNELS).find_map(|step| oldest_on(queue, (next + step) % CHANNELS))
 }

@@ -1,86 +1,81 @@
 // How a device with four channels works.
 ghost use Rattle.std.specs.Prelude.{◌≡◌, ◌+◌, ◌%◌, IfOk, IfErr, MatchOption, slice_index_or};
 ghost use Rattle.std.specs.Option.{option_map};
-ghost use Rattle.blocks.specs.Images.{image_blocks};
 ghost use Rattle.device.specs.Meaning.{submit_answer, submitted, Collected, read_answer};
 ghost use Rattle.device.specs.declared.types.Write.{Write};
 ghost use Rattle.bottoms.specs.Channels.{picked};
-ghost use Rattle.bottoms.specs.Means.{fresh, banked_means};
+ghost use Rattle.bottoms.specs.Means.{banked_means};
 ghost use Rattle.bottoms.specs.Sounds.{banked_kept};
+ghost use Rattle.bottoms.specs.Used.{blocks_of, fresh, used};
 
 use super::Banked;
-use super::channels::pick;
-use blocks::{Block, get_block, put_block};
+use super::channels::{CHANNELS, pick};
+use crate::image::Image;
+use blocks::Block;
 use device::{Device, Write, is_among};
 use layout::Refusal;
 use std::alloc::Global;
 
+const MOST_WAITING: usize = 8;
+
 impl Banked {
     // The device of the whole blocks of an image, up to 256, with no write waiting; where there is no memory, the image back.
     pub fn new(heap: Global, image: Vec<u8>) -> Result<Banked, Vec<u8>>
-        ensures made { IfOk result (λ b. (banked_means b ≡ fresh 8 image.items) × (b.image.items ≡ image.items) × (b.next ≡ 0)) }
+        ensures made { IfOk result (λ b. (banked_means b ≡ fresh 8 image.items) × (b.image.0.items ≡ image.items) × (b.next ≡ 0)) }
         ensures refused { IfErr result (λ back. back.items ≡ image.items) }
     {
-        match Vec::with_capacity(heap, 8) {
-            Ok(queue) => {
-                let size = (image.len() / 64).min(256);
-                Ok(Banked {
-                    image,
-                    size,
-                    queue,
-                    next: 0,
-                })
-            }
-            Err(_) => Err(image),
-        }
+        let Ok(queue) = Vec::with_capacity(heap, MOST_WAITING) else {
+            return Err(image);
+        };
+        Ok(Banked {
+            image: Image::new(image),
+            queue,
+            next: 0,
+        })
     }
 
     // Gives the image back, with what has landed on it; the writes that still wait are lost.
     pub fn into_image(self) -> Vec<u8>
-        ensures { result.items ≡ self.image.items }
+        ensures { result.items ≡ self.image.0.items }
     {
-        self.image
+        self.image.into_bytes()
     }
 }
 
 impl Device for Banked {
-    ghost medium = { λ s. image_blocks s.size s.image.items };
+    ghost medium = { λ s. blocks_of s.image.0.items };
 
     ghost waiting = { λ s. s.queue.items };
 
-    ghost size = { λ s. s.size };
+    ghost size = { λ s. used s.image.0.items };
 
     ghost depth = { λ _. 8 };
 
-    ghost valid = { λ _. Unit {0} };
-
-    ghost kept = { λ s _. banked_kept s };
-
     fn blocks(&self) -> usize {
-        self.size
+        self.image.blocks()
     }
 
     fn slots(&self) -> usize {
-        8
+        MOST_WAITING
     }
 
     fn is_waiting(&self, block: usize) -> bool {
         is_among(&self.queue, block)
     }
 
+    #[tactic(auto, using(device::proofs::Waits::apart_push, device::proofs::Waits::inside_push))]
     fn submit(&mut self, write: Write) -> Result<(), Refusal>
-        ensures answer { Unit {0} → result ≡ submit_answer (banked_means self.old) write.block }
-        ensures after { Unit {0} → banked_means self.new ≡ submitted result (banked_means self.old) write }
-        ensures valid { Unit {0} → Unit {0} }
+        ensures answer { result ≡ submit_answer (banked_means self.old) write.block }
+        ensures after { banked_means self.new ≡ submitted result (banked_means self.old) write }
         ensures channel { self.new.next ≡ self.old.next }
     {
-        if write.block >= self.size {
+        if write.block >= self.blocks() {
             return Err(Refusal::NoSuchBlock);
         }
         if self.is_waiting(write.block) {
             return Err(Refusal::UnderWay);
         }
-        if self.queue.len() >= 8 {
+        if self.queue.len() >= MOST_WAITING {
             return Err(Refusal::DeviceFull);
         }
         self.queue.push_reserved(write);
@@ -88,30 +83,26 @@ impl Device for Banked {
     }
 
     // Takes the oldest write of the next channel that has one, and then asks first the channel after it.
+    #[tactic(auto, using(device::proofs::Waits::apart_removed, device::proofs::Waits::inside_removed, crate::proofs::Landing::inside_taken))]
     fn collect(&mut self) -> Option<usize>
-        ensures cases { Unit {0} → Collected (banked_means self.old) result (banked_means self.new) }
-        ensures valid { Unit {0} → Unit {0} }
+        ensures cases { Collected (banked_means self.old) result (banked_means self.new) }
         ensures chosen { (d : Write) → result ≡ option_map (λ k. (slice_index_or self.old.queue.items k d).block) (picked self.old.queue.items self.old.next) }
         ensures channel { MatchOption result (self.new.next ≡ self.old.next) (λ b. self.new.next ≡ (b % 4 + 1) % 4) }
     {
-        let Some(place) = pick(&self.queue, self.next) else {
-            return None;
-        };
+        let place = pick(&self.queue, self.next)?;
         let w = self.queue.remove(place);
-        put_block(&mut self.image, w.block, &w.bytes);
-        self.next = (w.block % 4 + 1) % 4;
+        self.image.land(&w);
+        self.next = (w.block % CHANNELS + 1) % CHANNELS;
         Some(w.block)
     }
 
     fn read(&mut self, block: usize) -> Result<Block, Refusal>
-        ensures answer { Unit {0} → result ≡ read_answer (banked_means self.old) block }
-        ensures after { Unit {0} → banked_means self.new ≡ banked_means self.old }
-        ensures valid { Unit {0} → Unit {0} }
+        ensures answer { result ≡ read_answer (banked_means self.old) block }
+        ensures after { banked_means self.new ≡ banked_means self.old }
         ensures channel { self.new.next ≡ self.old.next }
     {
-        if block >= self.size {
-            return Err(Refusal::NoSuchBlock);
-        }
-        Ok(get_block(&self.image, block))
+        self.image.read(block)
     }
+
+    ghost kept = { banked_kept };
 }

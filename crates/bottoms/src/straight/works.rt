@@ -1,12 +1,13 @@
 // How a device with room for one waiting write works.
 ghost use Rattle.std.specs.Prelude.{◌≡◌};
 ghost use Rattle.std.specs.Option.{option_to_list};
-ghost use Rattle.blocks.specs.Images.{image_blocks};
-ghost use Rattle.bottoms.specs.Means.{fresh, straight_means};
+ghost use Rattle.bottoms.specs.Means.{straight_means};
 ghost use Rattle.bottoms.specs.Sounds.{straight_kept};
+ghost use Rattle.bottoms.specs.Used.{blocks_of, fresh, used};
 
 use super::Straight;
-use blocks::{Block, get_block, put_block};
+use crate::image::Image;
+use blocks::Block;
 use device::{Bench, Device, Write};
 use layout::Refusal;
 
@@ -14,39 +15,33 @@ impl Straight {
     // The device of the whole blocks of an image, up to 256, with no write waiting.
     pub fn new(image: Vec<u8>) -> Straight
         ensures means { straight_means result ≡ fresh 1 image.items }
-        ensures image { result.image.items ≡ image.items }
+        ensures image { result.image.0.items ≡ image.items }
     {
-        let size = (image.len() / 64).min(256);
         Straight {
-            image,
-            size,
+            image: Image::new(image),
             pending: None,
         }
     }
 
     // Gives the image back, with what has landed on it; a write that still waits is lost.
     pub fn into_image(self) -> Vec<u8>
-        ensures { result.items ≡ self.image.items }
+        ensures { result.items ≡ self.image.0.items }
     {
-        self.image
+        self.image.into_bytes()
     }
 }
 
 impl Device for Straight {
-    ghost medium = { λ s. image_blocks s.size s.image.items };
+    ghost medium = { λ s. blocks_of s.image.0.items };
 
     ghost waiting = { λ s. option_to_list s.pending };
 
-    ghost size = { λ s. s.size };
+    ghost size = { λ s. used s.image.0.items };
 
     ghost depth = { λ _. 1 };
 
-    ghost valid = { λ _. Unit {0} };
-
-    ghost kept = { λ s _. straight_kept s };
-
     fn blocks(&self) -> usize {
-        self.size
+        self.image.blocks()
     }
 
     fn slots(&self) -> usize {
@@ -54,24 +49,16 @@ impl Device for Straight {
     }
 
     fn is_waiting(&self, block: usize) -> bool {
-        match self.pending {
-            Some(w) => w.block == block,
-            None => false,
-        }
+        self.pending.is_some_and(|w| w.block == block)
     }
 
     fn submit(&mut self, write: Write) -> Result<(), Refusal> {
-        if write.block >= self.size {
+        if write.block >= self.blocks() {
             return Err(Refusal::NoSuchBlock);
         }
         match self.pending {
-            Some(w) => {
-                if w.block == write.block {
-                    Err(Refusal::UnderWay)
-                } else {
-                    Err(Refusal::DeviceFull)
-                }
-            }
+            Some(w) if w.block == write.block => Err(Refusal::UnderWay),
+            Some(_) => Err(Refusal::DeviceFull),
             None => {
                 self.pending = Some(write);
                 Ok(())
@@ -80,19 +67,16 @@ impl Device for Straight {
     }
 
     fn collect(&mut self) -> Option<usize> {
-        let Some(w) = self.pending.take() else {
-            return None;
-        };
-        put_block(&mut self.image, w.block, &w.bytes);
+        let w = self.pending.take()?;
+        self.image.land(&w);
         Some(w.block)
     }
 
     fn read(&mut self, block: usize) -> Result<Block, Refusal> {
-        if block >= self.size {
-            return Err(Refusal::NoSuchBlock);
-        }
-        Ok(get_block(&self.image, block))
+        self.image.read(block)
     }
+
+    ghost kept = { straight_kept };
 }
 
 impl Bench for Straight {
@@ -103,7 +87,7 @@ impl Bench for Straight {
         if mask % 2 == 0 {
             return 0;
         }
-        put_block(&mut self.image, w.block, &w.bytes);
+        self.image.land(&w);
         1
     }
 }

@@ -1,15 +1,19 @@
-use Rattle.std.proofs.Common.{sym, refl, arith}
+use Rattle.std.proofs.Common.{◌≡◌, ℕ, ◌<◌, Bool, length, get_or, true, false, refl, sym, subst, arith}
+use Rattle.std.proofs.lemmas.Iterator.{serves_from_Range, cases_from_any, YieldsList-from_range}
+use Rattle.std.proofs.lemmas.List.FromFn.{length-range_with_len}
 use Rattle.finite.specs.Finite.{exists}
-use Rattle.finite.proofs.Decided.{exists_from, exists_miss}
+use Rattle.finite.proofs.Asked.{exists_asked, numbers, number_at}
 use Rattle.finite.proofs.exists.Goals as goal
 
-pub loop-n-init : goal.loop-n-init
-unfolding exists
-loop-n-init g c = refl
+pub any-requires-clause-callable : goal.any-requires-clause-callable
+any-requires-clause-callable g c = serves_from_Range (λ x q k. g.met.F.Fn.1.step_stays _ _ _ _ (record { met = k.met })) (λ x l h. c.requires x h)
 
-pub returns-then-holds : goal.returns-then-holds
-returns-then-holds g c =
-    sym (exists_from (g.T.Test.holds c.args.t.now) _ c.loop-n.n (omega (arith, c.loop-n-test.true, c.limit-n-end.ensures)) (sym c.if-holds.ensures))
-
-pub loop-n-preserved : goal.loop-n-preserved
-loop-n-preserved g c = exists_miss (g.T.Test.holds c.args.t.now) c.loop-n.n c.loop-n.invariant (sym c.if-holds.ensures)
+pub returns : goal.returns
+returns g c p tells =
+    let n = c.args.limit in
+    let answers = λ (b : Bool) (x : ℕ). g.F.Fn.post c.args.test (x, tt) b in
+    let any = cases_from_any _ _ _ (answers true) (answers false) c.any.ensures.ran (YieldsList-from_range 0 _ n refl (omega arith))
+    (λ x q k. (g.met.F.FnMut.1.post_iff _ _ _).1 (q, record { met = k.met }))
+    (λ x q k. (g.met.F.Fn.1.step_stays _ _ _ _ (record { met = k.met }), (g.met.F.FnMut.1.post_iff _ _ _).1 (q, record { met = k.met }))) in
+    let told : (b : Bool) (k : ℕ) → k < length (numbers n) → answers b (get_or (numbers n) k 0) → p k ≡ b = λ b k h y. let at = number_at n (answers b) k h y in sym (tells k b at.0 at.1) in
+    subst (λ m. c.any.result ≡ exists m p) (length-range_with_len 0 n) (exists_asked (numbers n) 0 p (answers true) (answers false) (told true) (told false) c.any.result any)

@@ -1,15 +1,12 @@
-use Rattle.soundness.proofs.Judged.{verdict_is_right, answer_decides, answer_sound}
-use Rattle.soundness.proofs.PreparedLaws.{prepared_is_sound}
+use Rattle.std.proofs.Common.{Ok, rules}
+use Rattle.soundness.proofs.Judged.{judged}
 use Rattle.soundness.proofs.judgement.judge.Goals as goal
 
+pub returns-in_err-geometry : goal.returns-in_err-geometry
+returns-in_err-geometry c = judged c.args.table.now c.args.size _ (search rules) (search rules)
+
+pub returns-in_err-check_body : goal.returns-in_err-check_body
+returns-in_err-check_body c = judged c.args.table.now c.args.size _ (search rules) (search rules)
+
 pub returns : goal.returns
-returns c =
-    let m = c.args.table.now in
-    let told = c.look_through.ensures in
-    record {
-      value = told.value;
-      sound = answer_decides m c.args.size c.look_through.result told.value;
-      geometry = answer_sound m c.args.size c.look_through.result told.value told.geometry;
-      verdict_law = verdict_is_right;
-      prepared_law = prepared_is_sound;
-    }
+returns c = judged c.args.table.now c.args.size (Ok c.in_ok-geometry.geometry) (search rules) (search rules)

@@ -1,17 +1,10 @@
-use Rattle.std.proofs.Common.{◌+◌, sym, ap, ◌∙◌}
-use Rattle.std.specs.Option.{option_map}
-use Rattle.std.proofs.lemmas.List.{drop_all}
-use Rattle.bottoms.specs.Channels.{oldest}
-use Rattle.bottoms.proofs.Picks.{channel_found, channel_other}
+use Rattle.std.proofs.Common.{◌%◌, ◌==◌, ◌∙◌, rules, tests}
+use Rattle.std.proofs.lemmas.Iterator.{YieldsList-from_slice}
+use Rattle.std.proofs.lemmas.Iterator.Search.{position_from_yields_List}
+use Rattle.bottoms.proofs.Picks.{oldest_is}
 use Rattle.bottoms.proofs.banked.channels.oldest_on.Goals as goal
 
-pub returns-then-w-channel : goal.returns-then-w-channel
-returns-then-w-channel c =
-    channel_found _ _ _ c.index-queue-i.result c.loop-i-test.true c.index-queue-i.is c.loop-i.invariant c.if-w-channel.true
-
-pub loop-i-preserved : goal.loop-i-preserved
-loop-i-preserved c =
-    channel_other _ _ _ c.index-queue-i.result c.loop-i-test.true c.index-queue-i.is c.loop-i.invariant c.if-w-channel.false
-
 pub returns : goal.returns
-returns c = sym (c.loop-i.invariant ∙ ap (λ l. option_map (λ k. c.loop-i.i + k) (oldest c.args.channel l)) (drop_all _ _ c.loop-i-test.false))
+returns c =
+    position_from_yields_List (λ w. w.block % 4 == c.args.channel) _ _ _ c.position.ensures.ran (YieldsList-from_slice c.args.queue.now cc) (λ x b q k. search (rules, tests))
+    ∙ oldest_is c.args.channel c.args.queue.now
