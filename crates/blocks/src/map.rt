@@ -44,6 +44,7 @@ impl Map {
         requires { k < 64 }
         ensures { result ≡ octet_of (λ n. get_or self.now.marks n false) k }
     {
+        // Written out as the definition is: a `fold` over the eight marks leaves its bounds and its sum to prove.
         let n = 8 * k;
         let high = self.digit(n + 4)
             + 2 * (self.digit(n + 5) + 2 * (self.digit(n + 6) + 2 * self.digit(n + 7)));

@@ -54,9 +54,9 @@ pub(crate) fn small_card(image: &mut [u8; 512]) -> Result<Geometry, Refusal> {
 // The six pointers of inode i on a full card: the data blocks in order, as far as they go.
 fn pointers_of(i: usize) -> [u16; 6] {
     let first = 13 + 6 * i.min(32);
-    from_fn(|k| match first + k.min(6) {
-        b if b < 128 => b as u16,
-        _ => 0,
+    from_fn(|k| {
+        let b = first + k.min(6);
+        if b < 128 { b as u16 } else { 0 }
     })
 }
 
@@ -72,14 +72,15 @@ pub(crate) fn full_card(image: &mut [u8]) -> Result<Geometry, Refusal> {
     )?;
     put_map(image, 1, Map::below(32));
     put_map(image, 2, Map::below(128));
+    // Inodes from block 3 on, slots from block 11 on, four to a block.
     let (quarters, _) = image.as_chunks_mut();
-    for (i, inode) in (1..32usize).zip(quarters.iter_mut().skip(13)) {
+    for (i, inode) in (1..32usize).zip(quarters.iter_mut().skip(4 * 3 + 1)) {
         *inode = Quarter::from(&Inode {
             links: if i == 1 { 2 } else { 1 },
             pointers: pointers_of(i),
         });
     }
-    for (s, slot) in (0..32u8).zip(quarters.iter_mut().skip(44)) {
+    for (s, slot) in (0..32u8).zip(quarters.iter_mut().skip(4 * 11)) {
         let mut name = *b"part-of-log-AA";
         name[12] += s / 16;
         name[13] += s % 16;

@@ -52,16 +52,14 @@ pub(crate) fn show_orders(rt: &HostRuntime) -> anyhow::Result<()> {
     println!(rt; "\nWrites that wait, on devices of 64 blocks:")?;
     let mut simulator = Straight::new(vec![in rt.alloc(); 0u8; 4096]?);
     show_landings(rt, "straight", &mut simulator)?;
-    let Ok(mut staged) = Staging::new(rt.alloc(), simulator) else {
-        return Err(anyhow!("no memory"));
-    };
+    let mut staged = Staging::new(rt.alloc(), simulator).map_err(|_| anyhow!("no memory"))?;
     show_landings(rt, "staging over straight", &mut staged)?;
-    let Ok(mut board) = Banked::new(rt.alloc(), vec![in rt.alloc(); 0u8; 4096]?) else {
-        return Err(anyhow!("no memory"));
-    };
+    let mut board = Banked::new(rt.alloc(), vec![in rt.alloc(); 0u8; 4096]?).map_err(|_| anyhow!(
+        "no memory"
+    ))?;
     show_landings(rt, "banked", &mut board)?;
-    let Ok(mut fresh) = Banked::new(rt.alloc(), vec![in rt.alloc(); 0u8; 4096]?) else {
-        return Err(anyhow!("no memory"));
-    };
+    let mut fresh = Banked::new(rt.alloc(), vec![in rt.alloc(); 0u8; 4096]?).map_err(|_| anyhow!(
+        "no memory"
+    ))?;
     show_cut(rt, &mut fresh)
 }

@@ -10,6 +10,7 @@ use Rattle.std.proofs.lemmas.List.FromFn.{length-range_with_len, get_or-range_wi
 use Rattle.std.proofs.lemmas.Iterator.{cases_from_all, YieldsList-from_slice}
 use Rattle.std.proofs.lemmas.Fn.{fronts}
 use Rattle.finite.specs.Finite.{every, exists, lowest}
+use Rattle.finite.specs.Tests.{Tells}
 use Rattle.finite.proofs.Decided.{every_from, every_miss, exists_from, none_exists, none_lowest, lowest_hit}
 
 -- p is what the answers tell, of each place of the list
@@ -42,6 +43,11 @@ pub number_at : (n : ℕ) (Q : ℕ → Type 0) (k : ℕ) → k < length (numbers
 number_at n Q k h q =
     let l : k < n = omega (arith, length-range_with_len 0 n) in
     (l, subst Q (get_or-range_with_len 0 n k 0 l ∙ zero-add k) q)
+
+-- what the test answered of a number is what p tells
+pub told : (n : ℕ) (answers : ℕ → Bool → Type 0) (p : ℕ → Bool) → Tells n answers p
+    → (b : Bool) (k : ℕ) → k < length (numbers n) → answers (get_or (numbers n) k 0) b → p k ≡ b
+told n answers p tells b k h y = let at = number_at n (λ x. answers x b) k h y in sym (tells k b at.0 at.1)
 
 -- `all` over a slice whose elements the closure tests by t
 pub every_element : {A F : Type 0} {g : Mut F (Bor A × Unit {0}) Bool} {s : Iter A} (u : Iter A) (f : F) (xs : List A) (d : A) (t : A → Bool) (r : Bool) →

@@ -17,6 +17,10 @@ module _ (p : ℕ → Bool) where
   every_from zero f = refl
   every_from (suc n) f = and_from (every n p) (p n) (every_from n (λ k h. f k (omega arith))) (f n (omega arith))
 
+  pub every_hit : (n : ℕ) → every n p ≡ true → p n ≡ true → every (n + 1) p ≡ true
+  unfolding every
+  every_hit n e h = rw add-one (and_from (every n p) (p n) e h)
+
   pub every_miss : (n k : ℕ) → p k ≡ false → k < n → every n p ≡ false
   every_miss n k e h = elim (cases_Bool (every n p)) [ inl t ↦ absurd (both_ways (p k) e (every_at n t k h)) | inr f ↦ f ]
 
@@ -54,6 +58,9 @@ module _ (p : ℕ → Bool) where
   pub exists_more : (n : ℕ) → exists (n + 1) p ≡ exists n p || p n
   unfolding exists
   exists_more n = rw add-one refl
+
+  pub exists_miss : (n : ℕ) → exists n p ≡ false → p n ≡ false → exists (n + 1) p ≡ false
+  exists_miss n e h = exists_more n ∙ or_from (exists n p) (p n) e h
 
   -- lowest
   pub lowest_none : (n : ℕ) → lowest n p ≡ None → (k : ℕ) → k < n → p k ≡ false

@@ -67,6 +67,9 @@ module _ (bytes : List ℕ) (fits : (i : ℕ) → get_or bytes i 0 < 256) where
 pub target_back : (i : ℕ) (name : List ℕ) → target (entry_of i name) ≡ i
 target_back i name = whole i
 
+pub title_back : (i : ℕ) (name : List ℕ) → length name ≡ 14 → title (entry_of i name) ≡ name
+title_back i name l = take_all 14 name (omega arith)
+
 -- a slot's two bytes of a number, and those of its name
 pub entry_spelled : (bytes : List ℕ) → length bytes ≡ 16 → bytes ≡ get_or bytes 0 0 ∷ get_or bytes 1 0 ∷ title bytes
 entry_spelled [] l = absurd (omega arith)

@@ -49,7 +49,7 @@ pub fn prepare(image: &mut [u8], shape: Shape) -> Result<Geometry, Refusal>
     if image.len() != 64 * geometry.shape.blocks {
         return Err(Refusal::BadGeometry);
     }
-    // By number, and not by chunks: a block is written through the part of the image that starts at it, as devices write it.
+    // By number, and not by chunks, by a rule of the project: the part of the image that starts at a block is lent to `write_block`.
     for b in 0..geometry.first_data() {
         write_block(&mut image[64 * b..], &geometry.fresh_block(b));
     }

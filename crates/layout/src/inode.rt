@@ -6,6 +6,9 @@ use crate::malformed::Malformed;
 use blocks::{Quarter, high, low, word};
 use std::array::from_fn;
 
+// The kind of a file's inode.
+pub const FILE: u8 = 1;
+
 // The inode of a file. A pointer of 0 leads to no block.
 #[derive(Clone, Copy, Debug, PartialEq, Eq)]
 pub struct Inode {
@@ -22,7 +25,7 @@ impl From<&Inode> for Quarter {
         let n = inode.links;
         let [a, b, c, d, e, f] = inode.pointers;
         [
-            1,
+            FILE,
             0,
             low(n),
             high(n),
@@ -49,7 +52,7 @@ impl TryFrom<&Quarter> for Inode {
     ghost try_from_gives = { λ bytes result. MatchResult result (λ n. IsFile n.links n.pointers bytes.now) (λ _. is_file bytes.now ≡ false) };
 
     fn try_from(bytes: &Quarter) -> Result<Inode, Malformed> {
-        if bytes[0] != 1 || bytes[1] != 0 {
+        if bytes[0] != FILE || bytes[1] != 0 {
             return Err(Malformed);
         }
         Ok(Inode {

@@ -13,7 +13,7 @@ mod region;
 pub use empty::prepare;
 pub use entry::{Entry, has_title, title};
 pub use geometry::{Geometry, Shape};
-pub use inode::Inode;
+pub use inode::{FILE, Inode};
 pub use malformed::Malformed;
 pub use name::Name;
 pub use refusal::{Place, Refusal};

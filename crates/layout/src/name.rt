@@ -46,6 +46,7 @@ fn goes_on(title: &[u8; 14], k: usize) -> bool
 fn is_well_formed(title: &[u8; 14]) -> bool
     ensures { result ≡ well_formed title.now }
 {
+    // By place, as the definition has it: `windows(2)` with `all` leaves its proof open.
     is_printable(title[0]) && every(13, |k| goes_on(title, k))
 }
 

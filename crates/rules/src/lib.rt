@@ -8,6 +8,7 @@ ghost use Rattle.rules.specs.Landings.{LandingsAgree};
 ghost use Rattle.rules.specs.Ordering.{ImagesAreOrdered};
 
 // The worked example, by computing the rules.
+#[tactic(auto, using(crate::proofs::Example::worked_example))]
 pub fn worked_example()
     ensures { WorkedExample }
 {}
@@ -23,11 +24,13 @@ pub fn images_are_ordered()
 {}
 
 // Standing media are what power cuts leave, and collects are landings, by the device's own meaning.
+#[tactic(auto, using(crate::proofs::Cuts::landings_agree))]
 pub fn landings_agree()
     ensures { LandingsAgree }
 {}
 
 // What a rename and a trim leave, in plain words.
+#[tactic(auto, using(crate::proofs::Effects::calls_in_plain_words))]
 pub fn calls_in_plain_words()
     ensures { CallsInPlainWords }
 {}

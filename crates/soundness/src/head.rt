@@ -46,6 +46,7 @@ pub fn read_head(head: &Block, size: usize) -> Result<Geometry, Refusal>
     if !shape.has_good_directory() {
         return Err(Refusal::BadHead(in_head(10)));
     }
+    // By number, as the definition has it: `position` over the bytes leaves its value to prove.
     if let Some(k) = lowest(52, |k| head[12 + k] != 0) {
         return Err(Refusal::BadHead(in_head(12 + k)));
     }

@@ -25,6 +25,7 @@ impl Medium<'_> {
     pub(crate) fn check_inodes(&self) -> Result<(), Refusal>
         ensures { result_err result ≡ inode_verdict self.now.geometry.shape self.now.table.now }
     {
+        // No `map_or`: see `check_body`.
         match lowest(self.geometry.shape.inodes, |i| self.is_wrong_inode(i)) {
             Some(i) => Err(Refusal::BadInode(self.inode_place(i, 0))),
             None => Ok(()),
@@ -50,6 +51,7 @@ impl Medium<'_> {
     {
         let named = self.count_names();
         let has_few_links = |i: usize| word(&self.inode(i), 2) < named[i];
+        // No `map_or`: see `check_body`.
         match lowest(self.geometry.shape.inodes, has_few_links) {
             Some(i) => Err(Refusal::FewLinks(self.inode_place(i, 2))),
             None => Ok(()),

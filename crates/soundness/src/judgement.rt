@@ -10,8 +10,8 @@ use blocks::Block;
 use layout::{Geometry, Refusal};
 
 impl Medium<'_> {
-    // What the blocks after the head tell. Each check matches on what `lowest` finds: `map_or` takes as many lines there,
-    // and leaves each a proof to write that the `match` does without.
+    // What the blocks after the head tell. Each check has a `match` on what `lowest` finds, of four lines; so would be
+    // `.map_or(Ok(()), |i| Err(..))`, whose closure gets no contract from the check.
     fn check_body(&self) -> Result<(), Refusal>
         ensures { result_err result ≡ body_verdict self.now.geometry.shape self.now.table.now }
     {

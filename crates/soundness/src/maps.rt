@@ -29,6 +29,7 @@ impl Medium<'_> {
         requires within { block < 128 }
         ensures { result_err result ≡ found BadMap (λ n. at block (n / 8)) (lowest_of 512 (bit_fault (block_on self.now.table.now block) used end)) }
     {
+        // No `map_or`: see `check_body`.
         match lowest(512, |n| is_wrong_bit(&self.table[block], used, end, n)) {
             Some(n) => Err(Refusal::BadMap(Place { block, byte: n / 8 })),
             None => Ok(()),

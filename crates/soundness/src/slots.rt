@@ -12,15 +12,17 @@ ghost use Rattle.soundness.specs.Verdict.{slot_verdict, name_verdict};
 use crate::medium::Medium;
 use blocks::Quarter;
 use finite::{exists, lowest};
-use layout::{Entry, Refusal, has_title, title};
+use layout::{Entry, FILE, Refusal, has_title, title};
 
 impl Medium<'_> {
     // Whether the card has inode i, and it is present.
     fn is_present(&self, i: usize) -> bool
         ensures { result ≡ (nat_lt i self.now.geometry.shape.inodes && present (inode_on self.now.table.now i)) }
     {
-        i < self.geometry.shape.inodes && self.inode(i)[0] == 1
+        i < self.geometry.shape.inodes && self.inode(i)[0] == FILE
     }
+
+    // This test and the next three match, since `is_ok_and` and `is_some_and` leave their proofs open.
 
     // Whether an entry leads a name to a present inode.
     fn leads(&self, bytes: &Quarter) -> bool
@@ -69,6 +71,7 @@ impl Medium<'_> {
     pub(crate) fn check_slots(&self) -> Result<(), Refusal>
         ensures { result_err result ≡ slot_verdict self.now.geometry.shape self.now.table.now }
     {
+        // No `map_or`: see `check_body`.
         match lowest(self.geometry.slots(), |s| self.is_wrong_slot(s)) {
             Some(s) => Err(Refusal::BadSlot(self.slot_place(s))),
             None => Ok(()),
@@ -78,6 +81,7 @@ impl Medium<'_> {
     pub(crate) fn check_names(&self) -> Result<(), Refusal>
         ensures { result_err result ≡ name_verdict self.now.geometry.shape self.now.table.now }
     {
+        // No `map_or`: see `check_body`.
         match lowest(self.geometry.slots(), |s| self.is_name_twice(s)) {
             Some(s) => Err(Refusal::NameTwice(self.slot_place(s))),
             None => Ok(()),

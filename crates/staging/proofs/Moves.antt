@@ -34,7 +34,7 @@ joined d room queue w s f h n =
       within = subst (λ l. inside d.size l ≡ true) list (inside_push d.size (d.waiting ++ queue) w s.within h);
     }
 
--- the same where the device below has refused it: no other check does
+-- the same where the device below has refused it: nothing but its room can be why
 pub queued : {d d' : Meaning} {room : ℕ} {queue : List Write} (w : Write) (r : Result (Unit {0}) Refusal) → Staged d room queue
     → r ≡ submit_answer d w.block → d' ≡ submitted r d w → is_ok r ≡ false → w.block < d.size → waits (d.waiting ++ queue) w.block ≡ false
     → Staged d' room (queue ++ w ∷ [])

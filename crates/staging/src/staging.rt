@@ -10,7 +10,7 @@ use std::alloc::Global;
 use std::collections::VecDeque;
 
 // The most writes that may wait in any device.
-const MOST_WAITING: usize = 1000;
+const MOST_DEPTH: usize = 1000;
 
 // The most writes that the queue adds to those of the device below.
 const MOST_ROOM: usize = 8;
@@ -20,7 +20,7 @@ impl<D: Device> Staging<D> {
     pub fn new(heap: Global, inner: D) -> Result<Staging<D>, D>
         ensures { MatchResult result (Fresh D.Device inner) (λ d. d ≡ inner) }
     {
-        let room = MOST_WAITING.saturating_sub(inner.slots()).min(MOST_ROOM);
+        let room = MOST_DEPTH.saturating_sub(inner.slots()).min(MOST_ROOM);
         let Ok(queue) = VecDeque::with_capacity(heap, room) else {
             return Err(inner);
         };
@@ -46,6 +46,7 @@ impl<D: Device> Device for Staging<D> {
     }
 
     fn is_waiting(&self, block: usize) -> bool {
+        // `is_among` takes a slice, and a deque is none.
         self.inner.is_waiting(block) || self.queue.iter().any(|w| w.block == block)
     }
 

@@ -22,6 +22,7 @@ fn land(image: &mut Image, queue: &[Write], mask: u8) -> u8
 {
     let mut bits = mask;
     let mut count = 0;
+    // No chain: each turn may change the image.
     for w in queue {
         if bits % 2 == 1 {
             image.land(w);

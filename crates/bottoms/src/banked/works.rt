@@ -16,7 +16,7 @@ use device::{Device, Write, is_among};
 use layout::Refusal;
 use std::alloc::Global;
 
-const MOST_WAITING: usize = 8;
+const DEPTH: usize = 8;
 
 impl Banked {
     // The device of the whole blocks of an image, up to 256, with no write waiting; where there is no memory, the image back.
@@ -24,7 +24,7 @@ impl Banked {
         ensures made { IfOk result (λ b. (banked_means b ≡ fresh 8 image.items) × (b.image.0.items ≡ image.items) × (b.next ≡ 0)) }
         ensures refused { IfErr result (λ back. back.items ≡ image.items) }
     {
-        let Ok(queue) = Vec::with_capacity(heap, MOST_WAITING) else {
+        let Ok(queue) = Vec::with_capacity(heap, DEPTH) else {
             return Err(image);
         };
         Ok(Banked {
@@ -56,7 +56,7 @@ impl Device for Banked {
     }
 
     fn slots(&self) -> usize {
-        MOST_WAITING
+        DEPTH
     }
 
     fn is_waiting(&self, block: usize) -> bool {
@@ -75,7 +75,7 @@ impl Device for Banked {
         if self.is_waiting(write.block) {
             return Err(Refusal::UnderWay);
         }
-        if self.queue.len() >= MOST_WAITING {
+        if self.queue.len() >= DEPTH {
             return Err(Refusal::DeviceFull);
         }
         self.queue.push_reserved(write);

@@ -2,7 +2,7 @@ use Rattle.std.proofs.Common.{◌≡◌, ℕ, ◌<◌, Bool, length, get_or, tru
 use Rattle.std.proofs.lemmas.Iterator.{serves_from_Range, IsFirst-from_position, YieldsList-from_range}
 use Rattle.std.proofs.lemmas.List.FromFn.{length-range_with_len}
 use Rattle.finite.specs.Finite.{lowest}
-use Rattle.finite.proofs.Asked.{lowest_asked, numbers, number_at}
+use Rattle.finite.proofs.Asked.{lowest_asked, numbers, told}
 use Rattle.finite.proofs.lowest.Goals as goal
 
 pub position-requires-clause-callable : goal.position-requires-clause-callable
@@ -11,9 +11,8 @@ position-requires-clause-callable g c = serves_from_Range (λ x q k. g.met.F.Fn.
 pub returns-clause-value : goal.returns-clause-value
 returns-clause-value g c p tells =
     let n = c.args.limit in
-    let answers = λ (b : Bool) (x : ℕ). g.F.Fn.post c.args.test (x, tt) b in
-    let position = IsFirst-from_position _ _ _ (answers true) (answers false) c.position.ensures.ran (YieldsList-from_range 0 _ n refl (omega arith))
+    let answers = λ (x : ℕ) (b : Bool). g.F.Fn.post c.args.test (x, tt) b in
+    let position = IsFirst-from_position _ _ _ (λ x. answers x true) (λ x. answers x false) c.position.ensures.ran (YieldsList-from_range 0 _ n refl (omega arith))
     (λ x q k. (g.met.F.FnMut.1.post_iff _ _ _).1 (q, record { met = k.met }))
     (λ x q k. (g.met.F.Fn.1.step_stays _ _ _ _ (record { met = k.met }), (g.met.F.FnMut.1.post_iff _ _ _).1 (q, record { met = k.met }))) in
-    let told : (b : Bool) (k : ℕ) → k < length (numbers n) → answers b (get_or (numbers n) k 0) → p k ≡ b = λ b k h y. let at = number_at n (answers b) k h y in sym (tells k b at.0 at.1) in
-    subst (λ m. c.position.result ≡ lowest m p) (length-range_with_len 0 n) (lowest_asked (numbers n) 0 p (answers true) (answers false) (told true) (told false) c.position.result position)
+    subst (λ m. c.position.result ≡ lowest m p) (length-range_with_len 0 n) (lowest_asked (numbers n) 0 p (λ x. answers x true) (λ x. answers x false) (told n answers p tells true) (told n answers p tells false) c.position.result position)

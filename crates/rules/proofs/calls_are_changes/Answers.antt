@@ -1,3 +1,4 @@
+-- named by hand: `using` on the function does not close this one
 use Rattle.rules.proofs.Allowed.{calls_are_changes}
 use Rattle.rules.proofs.calls_are_changes.Goals as goal
 

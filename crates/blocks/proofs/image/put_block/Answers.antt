@@ -1,3 +1,4 @@
+-- the check leaves this goal
 use Rattle.blocks.proofs.Images.{lent}
 use Rattle.blocks.proofs.image.put_block.Goals as goal
 

@@ -1,3 +1,4 @@
+-- the check leaves this goal
 use Rattle.std.proofs.Common.{◌≡◌, ◌-◌, ◌++◌, length, drop, replicate, ap, ◌∙◌, arith}
 use Rattle.layout.proofs.Titles.{filled_up}
 use Rattle.layout.proofs.name.fill_up.Goals as goal
