@@ -1,12 +1,15 @@
 -- Landings, by the device's list of waiting writes.
-use Rattle.std.proofs.Common.{◌≡◌, ℕ, zero, suc, ◌<◌, true, false, not, eqb, ◌≢◌, List, [], ◌∷◌, length, get_or, set, Some, None, unwrap_or, sym, refl, ap, ◌∙◌, subst, inl, inr, arith}
+use Rattle.std.proofs.Common.{◌≡◌, ℕ, zero, suc, ◌<◌, ◌≤◌, true, false, not, eqb, ◌≢◌, List, [], ◌∷◌, length, get_or, set, Some, None, unwrap_or, sym, refl, ap, ◌∙◌, subst, inl, inr, arith}
 use Rattle.std.specs.List.{remove}
-use Rattle.std.proofs.lemmas.Bool.{and_parts, or_cases, or_parts, not-true, both_ways, true≢false, eq-eqb, ne_eqb, eqb-true, cond-true, cond-false}
+use Rattle.std.proofs.lemmas.Bool.{and_parts, or_cases, or_parts, not-true, both_ways, true≢false, eq-eqb, ne_eqb, eqb-true, cond-true, cond-false, cond_both}
+use Rattle.std.proofs.lemmas.List.{length-set}
+use Rattle.blocks.specs.Bytes.{Block}
 use Rattle.device.specs.declared.types.Write.{Write}
-use Rattle.device.specs.Meaning.{Meaning, Kept, Lands, waits, apart, landed}
-use Rattle.device.proofs.Waits.{waits_at}
+use Rattle.device.specs.Meaning.{Meaning, Kept, Lands, waits, apart, inside, landed}
+use Rattle.device.proofs.Waits.{waits_at, apart_removed, inside_removed}
 use Rattle.rules.specs.Standing.{under_way, newest, confirmed}
 use Rattle.rules.specs.Changes.{without, landing}
+use Rattle.rules.proofs.Written.{after_set}
 
 -- the first write of a list and the others are of different blocks
 pub apart_first : (w : Write) (ws : List Write) (b : ℕ) → apart (w ∷ ws) ≡ true → waits ws b ≡ true → w.block ≢ b
@@ -68,7 +71,44 @@ place_of (w ∷ ws) b h =
       | inr q ↦ let later = place_of ws b q in (suc later.0, later.1, omega (arith, later.2), later.3, later.4)
     ]
 
+-- a write that waits has a whole block of bytes
+sent_long : (ws : List Write) (b : ℕ) (old : Block) → length old ≡ 64 → length (unwrap_or (under_way ws b) old) ≡ 64
+unfolding under_way
+sent_long [] b old h = h
+sent_long (w ∷ ws) b old h =
+    cond_both (eqb w.block b) _ _ (λ o. length (unwrap_or o old) ≡ 64) (λ _. w.whole) (λ _. sent_long ws b old h)
+
+-- leaving out the write of a block is removing one place, which is past the end where none waits
+left_out : (ws : List Write) (b : ℕ) → (i : ℕ) × (without ws b ≡ remove ws i)
+unfolding without
+left_out [] b = (0, refl)
+left_out (w ∷ ws) b =
+    let later = left_out ws b in
+    cond_both (eqb w.block b) _ _ (λ left. (i : ℕ) × (left ≡ remove (w ∷ ws) i)) (λ _. (0, refl)) (λ _. (suc later.0, ap (λ r. w ∷ r) later.1))
+
+removed_fewer : (ws : List Write) (i : ℕ) → length (remove ws i) ≤ length ws
+removed_fewer [] zero = omega arith
+removed_fewer [] (suc i) = omega arith
+removed_fewer (w ∷ ws) zero = omega arith
+removed_fewer (w ∷ ws) (suc i) = let later = removed_fewer ws i in omega arith
+
 module _ (d : Meaning) (kept : Kept d) where
+  -- a landing keeps what devices keep, also where no write of the block waits
+  pub landing_kept : (b : ℕ) → Kept (landing d b)
+  unfolding landing newest
+  landing_kept b =
+      let left = left_out d.waiting b in
+      record {
+        long = length-set d.medium b _ ∙ kept.long;
+        whole = λ c h. after_set (λ x. length x ≡ 64) d.medium b c _ []
+            (λ q. sent_long d.waiting b _ (ap (λ n. length (confirmed d n)) (sym q) ∙ kept.whole c h)) (kept.whole c h);
+        distinct = ap apart left.1 ∙ apart_removed d.waiting left.0 kept.distinct;
+        within = ap (inside d.size) left.1 ∙ inside_removed d.size d.waiting left.0 kept.within;
+        few = omega (arith, kept.few, removed_fewer d.waiting left.0, ap length left.1);
+        some = kept.some;
+        bound = kept.bound;
+      }
+
   landing_at : (i : ℕ) (w : Write) → i < length d.waiting → w ≡ get_or d.waiting i w
       → landing d w.block ≡ record { medium = landed d.medium w; waiting = remove d.waiting i; size = d.size; depth = d.depth }
   unfolding landing newest

@@ -1,4 +1,5 @@
 mod Checks
+mod Written
 mod Named
 mod Allowed
 mod Standing
@@ -8,4 +9,6 @@ mod Ordering
 mod Effects
 mod Landings
 mod Cuts
+mod Begun
+mod Kept
 mod Example

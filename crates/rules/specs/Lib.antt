@@ -14,4 +14,5 @@ pub mod Ordering
 pub mod Effects
 pub mod Landings
 pub mod Attach
+pub mod Kept
 pub mod Example

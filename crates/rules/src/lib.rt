@@ -4,6 +4,7 @@
 ghost use Rattle.rules.specs.Allowed.{CallsAreChanges};
 ghost use Rattle.rules.specs.Effects.{CallsInPlainWords};
 ghost use Rattle.rules.specs.Example.{WorkedExample};
+ghost use Rattle.rules.specs.Kept.{StatesStayCoherent};
 ghost use Rattle.rules.specs.Landings.{LandingsAgree};
 ghost use Rattle.rules.specs.Ordering.{ImagesAreOrdered};
 
@@ -16,6 +17,12 @@ pub fn worked_example()
 // Every call is a list of primitive changes that may be made; a refused one is the empty list.
 pub fn calls_are_changes()
     ensures { CallsAreChanges }
+{}
+
+// An attach begins in a state in which every name leads to a file, and every change and every call keeps it so.
+#[tactic(auto, using(crate::proofs::Kept::states_stay_coherent))]
+pub fn states_stay_coherent()
+    ensures { StatesStayCoherent }
 {}
 
 // The ordering rules of soft updates, of every image and of everything that is free.

@@ -75,7 +75,7 @@ module _ (m : Medium) (size : ℕ) where
       (λ s. let here = sound_told s in ((here.0, here.1.good, here.1.headed), sound_body told m here.1))
       (clears_first _ _ (clears_head (block m 0) size) (λ t. clears_body told m t.1))
 
-verdict_is_right : VerdictIsRight
+pub verdict_is_right : VerdictIsRight
 verdict_is_right m size = clears_decides (verdict m size) (clears_verdict m size)
 
 -- what an answer says that tells the verdict
