@@ -1,4 +1,4 @@
--- Coherent states, and the law that an attach begins in one and every change and every call keeps it.
+-- Coherent states, and the law that an accepted attach begins in one, and every change that may be made and every call keeps it.
 use Rattle.std.specs.Prelude.{◌≡◌, ℕ, ◌<◌, true, false, List, Ok}
 use Rattle.layout.specs.declared.geometry.Shape.{Shape}
 use Rattle.layout.specs.Shapes.{slots}

@@ -16,3 +16,4 @@ pub mod Landings
 pub mod Attach
 pub mod Kept
 pub mod Example
+pub mod Busy

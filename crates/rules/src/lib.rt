@@ -2,6 +2,7 @@
 #![tactic(auto)]
 
 ghost use Rattle.rules.specs.Allowed.{CallsAreChanges};
+ghost use Rattle.rules.specs.Busy.{BusyExample};
 ghost use Rattle.rules.specs.Effects.{CallsInPlainWords};
 ghost use Rattle.rules.specs.Example.{WorkedExample};
 ghost use Rattle.rules.specs.Kept.{StatesStayCoherent};
@@ -14,12 +15,18 @@ pub fn worked_example()
     ensures { WorkedExample }
 {}
 
+// A second example, with calls made while writes wait, and attaches to what is left.
+#[tactic(auto, using(crate::proofs::Example::busy_example))]
+pub fn busy_example()
+    ensures { BusyExample }
+{}
+
 // Every call is a list of primitive changes that may be made; a refused one is the empty list.
 pub fn calls_are_changes()
     ensures { CallsAreChanges }
 {}
 
-// An attach begins in a state in which every name leads to a file, and every change and every call keeps it so.
+// An accepted attach begins in a state in which every name leads to a file, and every change that may be made and every call keeps it so.
 #[tactic(auto, using(crate::proofs::Kept::states_stay_coherent))]
 pub fn states_stay_coherent()
     ensures { StatesStayCoherent }

@@ -46,7 +46,7 @@ impl<D: Device> Device for Staging<D> {
     }
 
     fn is_waiting(&self, block: usize) -> bool {
-        // `is_among` takes a slice, and a deque is none.
+        // No plainer by `is_among`: a deque is no slice, and over any iterator its contract would be longer than this line.
         self.inner.is_waiting(block) || self.queue.iter().any(|w| w.block == block)
     }
 
