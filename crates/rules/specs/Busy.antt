@@ -1,12 +1,14 @@
 -- A second example: the same card, with calls made while writes wait, and attaches to what the supply leaves of it.
-use Rattle.std.specs.Prelude.{◌≡◌, List, [], ◌∷◌, ◌++◌, replicate, Ok, Err}
-use Rattle.layout.specs.declared.refusal.Refusal.TheVariants.{MalformedName, NoSuchName, NameExists, NameLeaving, OutOfRange, WrongLength, NoSuchBlock, NotDue, UnderWay, NoneWaiting}
+use Rattle.std.specs.Prelude.{◌≡◌, List, [], ◌∷◌, ◌++◌, replicate, Ok, Err, slice_set}
+use Rattle.layout.specs.Entries.{entry_of}
+use Rattle.layout.specs.Names.{padded}
+use Rattle.layout.specs.declared.refusal.Refusal.TheVariants.{MalformedName, NoSuchName, NameExists, NameLeaving, OutOfRange, WrongLength, NoSuchBlock, NotDue, UnderWay, NoneWaiting, AlreadyAttached, BadMap}
 use Rattle.device.specs.Meaning.{Meaning}
 use Rattle.rules.specs.States.{State, unattached, attached}
 use Rattle.rules.specs.Changes.{landing}
-use Rattle.rules.specs.Calls.{next}
+use Rattle.rules.specs.Calls.{next, get, look}
 use Rattle.rules.specs.Acts.{Make, Link, Remove, Put, Trim, Write, Collect, Made, InSlot, InBlock, Done, act}
-use Rattle.rules.specs.Attach.{started, attach}
+use Rattle.rules.specs.Attach.{started, attach, end}
 use Rattle.rules.specs.Example.{Line, asks, shows, played, A, B, C, card}
 
 -- the state after the calls of some lines
@@ -195,6 +197,14 @@ filed =
     ∷ asks (Put B 0 (replicate 64 1)) (Ok (InBlock 6))
     ∷ []
 
+-- the state when a file has a part, and what it holds
+unfoldable pub holding : State
+holding = reached (started card) (born ++ sent ++ removed ++ overwritten)
+
+-- a device whose inode map marks nothing, not even inode 0
+unfoldable pub spoilt : Meaning
+spoilt = record { medium = slice_set card.medium 1 (replicate 64 0); waiting = []; size = 8; depth = 8 }
+
 -- every line holds, and a store attaches where the supply failed: before the name was sent, while it waited, and when the part was there
 pub record BusyExample : Type 0 where
   pub holds : played (started card) busy ≡ busy
@@ -205,3 +215,17 @@ pub record BusyExample : Type 0 where
   pub attaches_again : attach (unattached (left (born ++ sent ++ removed ++ overwritten))) []
       ≡ record { answer = Ok tt; after = attached (started (left (born ++ sent ++ removed ++ overwritten))) }
   pub finds_part : played (started (left (born ++ sent ++ removed ++ overwritten))) filed ≡ filed
+  -- an attached store is not attached again, and an unsound medium leaves the store as it was
+  pub stays : attach (attached holding) [] ≡ record { answer = Err AlreadyAttached; after = attached holding }
+  pub refuses : attach (unattached spoilt) [] ≡ record { answer = Err (BadMap (record { block = 1; byte = 0 })); after = unattached spoilt }
+  -- get and look tell what the view has, and the first that is wrong
+  pub gets : get holding B 1 64 ≡ Ok (replicate 64 8)
+  pub gets_zeros : get holding B 0 64 ≡ Ok (replicate 64 0)
+  pub gets_no_part : get holding B 6 63 ≡ Err OutOfRange
+  pub gets_no_buffer : get holding B 1 63 ≡ Err WrongLength
+  pub looks : look holding 1 ≡ Ok (entry_of 2 (padded B))
+  pub looks_past : look holding 4 ≡ Err OutOfRange
+  -- end counts what is due or under way: after a put the part's block and the block map, also while the map waits; and a name that waits
+  pub counts : (end (attached (reached holding (asks (Put B 0 (replicate 64 1)) (Ok (InBlock 6)) ∷ [])))).0 ≡ 2
+  pub counts_waiting : (end (attached (reached holding (asks (Put B 0 (replicate 64 1)) (Ok (InBlock 6)) ∷ asks (Write 2) (Ok Done) ∷ [])))).0 ≡ 2
+  pub counts_name : (end (attached (reached (started card) (born ++ sent ++ asks (Remove A) (Ok Done) ∷ [])))).0 ≡ 1
