@@ -2,13 +2,13 @@
 use Rattle.std.specs.Prelude.{◌≡◌, List, [], ◌∷◌, ◌++◌, replicate, Ok, Err, slice_set}
 use Rattle.layout.specs.Entries.{entry_of}
 use Rattle.layout.specs.Names.{padded}
-use Rattle.layout.specs.declared.refusal.Refusal.TheVariants.{MalformedName, NoSuchName, NameExists, NameLeaving, OutOfRange, WrongLength, NoSuchBlock, NotDue, UnderWay, NoneWaiting, AlreadyAttached, BadMap}
+use Rattle.layout.specs.declared.refusal.Refusal.TheVariants.{MalformedName, NoSuchName, NameExists, NameLeaving, OutOfRange, WrongLength, NoSuchBlock, NotDue, UnderWay, NoneWaiting, NotAttached, AlreadyAttached, BadMap}
 use Rattle.device.specs.Meaning.{Meaning}
 use Rattle.rules.specs.States.{State, unattached, attached}
 use Rattle.rules.specs.Changes.{landing}
-use Rattle.rules.specs.Calls.{next, get, look}
+use Rattle.rules.specs.Calls.{next, copied, get, look, write}
 use Rattle.rules.specs.Acts.{Make, Link, Remove, Put, Trim, Write, Collect, Made, InSlot, InBlock, Done, act}
-use Rattle.rules.specs.Attach.{started, attach, end}
+use Rattle.rules.specs.Attach.{call, started, attach, end}
 use Rattle.rules.specs.Example.{Line, asks, shows, played, A, B, C, card}
 
 -- the state after the calls of some lines
@@ -205,6 +205,22 @@ holding = reached (started card) (born ++ sent ++ removed ++ overwritten)
 unfoldable pub spoilt : Meaning
 spoilt = record { medium = slice_set card.medium 1 (replicate 64 0); waiting = []; size = 8; depth = 8 }
 
+-- a part that is given and taken before anything is sent: its block is sent as it stands, and so is one whose part went; then the file goes
+abbrev pub taken : List Line
+taken =
+    asks (Put B 0 (replicate 64 1)) (Ok (InBlock 6))
+    ∷ asks (Trim B 0) (Ok Done)
+    ∷ shows 6 0 (0 ∷ 0 ∷ [])
+    ∷ shows 5 0 (8 ∷ 8 ∷ [])
+    ∷ asks (Remove B) (Ok Done)
+    ∷ shows 5 0 (8 ∷ 8 ∷ [])
+    ∷ asks (Make B) (Err NameLeaving)
+    ∷ []
+
+-- the state with one more part, of which nothing has been sent
+unfoldable pub unsent : State
+unsent = reached holding (asks (Put B 0 (replicate 64 1)) (Ok (InBlock 6)) ∷ [])
+
 -- every line holds, and a store attaches where the supply failed: before the name was sent, while it waited, and when the part was there
 pub record BusyExample : Type 0 where
   pub holds : played (started card) busy ≡ busy
@@ -216,16 +232,27 @@ pub record BusyExample : Type 0 where
       ≡ record { answer = Ok tt; after = attached (started (left (born ++ sent ++ removed ++ overwritten))) }
   pub finds_part : played (started (left (born ++ sent ++ removed ++ overwritten))) filed ≡ filed
   -- an attached store is not attached again, and an unsound medium leaves the store as it was
-  pub stays : attach (attached holding) [] ≡ record { answer = Err AlreadyAttached; after = attached holding }
+  pub stays : attach (attached unsent) [] ≡ record { answer = Err AlreadyAttached; after = attached unsent }
   pub refuses : attach (unattached spoilt) [] ≡ record { answer = Err (BadMap (record { block = 1; byte = 0 })); after = unattached spoilt }
   -- get and look tell what the view has, and the first that is wrong
   pub gets : get holding B 1 64 ≡ Ok (replicate 64 8)
   pub gets_zeros : get holding B 0 64 ≡ Ok (replicate 64 0)
+  pub gets_unsent : get unsent B 0 64 ≡ Ok (replicate 64 1)
+  pub gets_last : get holding B 5 64 ≡ Ok (replicate 64 0)
   pub gets_no_part : get holding B 6 63 ≡ Err OutOfRange
   pub gets_no_buffer : get holding B 1 63 ≡ Err WrongLength
   pub looks : look holding 1 ≡ Ok (entry_of 2 (padded B))
   pub looks_past : look holding 4 ≡ Err OutOfRange
   -- end counts what is due or under way: after a put the part's block and the block map, also while the map waits; and a name that waits
-  pub counts : (end (attached (reached holding (asks (Put B 0 (replicate 64 1)) (Ok (InBlock 6)) ∷ [])))).0 ≡ 2
+  pub counts : (end (attached unsent)).0 ≡ 2
   pub counts_waiting : (end (attached (reached holding (asks (Put B 0 (replicate 64 1)) (Ok (InBlock 6)) ∷ asks (Write 2) (Ok Done) ∷ [])))).0 ≡ 2
   pub counts_name : (end (attached (reached (started card) (born ++ sent ++ asks (Remove A) (Ok Done) ∷ [])))).0 ≡ 1
+  -- and gives the device back
+  pub gives_back : (end (attached unsent)).1 ≡ unsent.device
+  pub gives_back_unattached : end (unattached card) ≡ (0, card)
+  -- a refused call leaves the store, attached or not, and the caller's buffer
+  pub leaves : call (λ st. write st 8) (attached holding) ≡ record { answer = Err NoSuchBlock; after = attached holding }
+  pub leaves_unattached : call (λ st. write st 8) (unattached card) ≡ record { answer = Err NotAttached; after = unattached card }
+  pub leaves_buffer : copied (Err OutOfRange) (5 ∷ []) ≡ 5 ∷ []
+  pub fills_buffer : copied (Ok (1 ∷ [])) (5 ∷ []) ≡ 1 ∷ []
+  pub takes : played holding taken ≡ taken
