@@ -15,4 +15,5 @@ returns g c p tells =
     let any = cases_from_any _ _ _ (λ x. answers x true) (λ x. answers x false) c.any.ensures.ran (YieldsList-from_range 0 _ n refl (omega arith))
     (λ x q k. (g.met.F.FnMut.1.post_iff _ _ _).1 (q, record { met = k.met }))
     (λ x q k. (g.met.F.Fn.1.step_stays _ _ _ _ (record { met = k.met }), (g.met.F.FnMut.1.post_iff _ _ _).1 (q, record { met = k.met }))) in
-    subst (λ m. c.any.result ≡ exists m p) (length-range_with_len 0 n) (exists_asked (numbers n) 0 p (λ x. answers x true) (λ x. answers x false) (told n answers p tells true) (told n answers p tells false) c.any.result any)
+    let found : c.any.result ≡ exists n p = subst (λ m. c.any.result ≡ exists m p) (length-range_with_len 0 n) (exists_asked (numbers n) 0 p (λ x. answers x true) (λ x. answers x false) (told n answers p tells true) (told n answers p tells false) c.any.result any) in
+    grind (arith, found)

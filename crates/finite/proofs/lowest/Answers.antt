@@ -15,4 +15,5 @@ returns-clause-value g c p tells =
     let position = IsFirst-from_position _ _ _ (λ x. answers x true) (λ x. answers x false) c.position.ensures.ran (YieldsList-from_range 0 _ n refl (omega arith))
     (λ x q k. (g.met.F.FnMut.1.post_iff _ _ _).1 (q, record { met = k.met }))
     (λ x q k. (g.met.F.Fn.1.step_stays _ _ _ _ (record { met = k.met }), (g.met.F.FnMut.1.post_iff _ _ _).1 (q, record { met = k.met }))) in
-    subst (λ m. c.position.result ≡ lowest m p) (length-range_with_len 0 n) (lowest_asked (numbers n) 0 p (λ x. answers x true) (λ x. answers x false) (told n answers p tells true) (told n answers p tells false) c.position.result position)
+    let found : c.position.result ≡ lowest n p = subst (λ m. c.position.result ≡ lowest m p) (length-range_with_len 0 n) (lowest_asked (numbers n) 0 p (λ x. answers x true) (λ x. answers x false) (told n answers p tells true) (told n answers p tells false) c.position.result position) in
+    grind (arith, found)
