@@ -24,13 +24,21 @@ impl Medium<'_> {
         quarter(&self.table[self.geometry.inode_block(i)], i % 4)
     }
 
+    // A copy of the 16 bytes of slot s, if the table has its block.
+    pub(crate) fn slot(&self, s: usize) -> Option<Quarter>
+        ensures { MatchOption result (empty (slot_on self.now.geometry.shape self.now.table.now s) ≡ true)
+            (λ q. q ≡ slot_on self.now.geometry.shape self.now.table.now s) }
+    {
+        let Medium { table, geometry } = self;
+        Some(quarter(table.get(geometry.slot_block(s))?, s % 4))
+    }
+
     // The entry in slot s, unless it is empty.
     pub(crate) fn entry(&self, s: usize) -> Option<Quarter>
         ensures { MatchOption result (empty (slot_on self.now.geometry.shape self.now.table.now s) ≡ true)
             (λ e. (e ≡ slot_on self.now.geometry.shape self.now.table.now s) × (empty e ≡ false)) }
     {
-        let Medium { table, geometry } = self;
-        let slot = quarter(table.get(geometry.slot_block(s))?, s % 4);
+        let slot = self.slot(s)?;
         if is_zero(&slot) { None } else { Some(slot) }
     }
 

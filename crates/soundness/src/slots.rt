@@ -10,7 +10,7 @@ ghost use Rattle.soundness.specs.Faults.{slot_fault, name_fault};
 ghost use Rattle.soundness.specs.Verdict.{slot_verdict, name_verdict};
 
 use crate::medium::Medium;
-use blocks::Quarter;
+use blocks::{Quarter, is_zero};
 use finite::{exists, lowest};
 use layout::{Entry, FILE, Refusal, has_title, title};
 
@@ -49,8 +49,9 @@ impl Medium<'_> {
     fn has_name(&self, s: usize, name: &[u8; 14]) -> bool
         ensures { result ≡ (not (empty (slot_on self.now.geometry.shape self.now.table.now s)) && bytes_eq name.now (title_of (slot_on self.now.geometry.shape self.now.table.now s))) }
     {
-        match self.entry(s) {
-            Some(entry) => has_title(&entry, name),
+        // The name first: few slots have it, and it is found out at once.
+        match self.slot(s) {
+            Some(slot) => has_title(&slot, name) && !is_zero(&slot),
             None => false,
         }
     }
