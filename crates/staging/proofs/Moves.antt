@@ -1,17 +1,17 @@
 -- How writes pass from the queue to the device below.
-use Rattle.std.proofs.Common.{◌≡◌, ℕ, suc, ◌+◌, ◌<◌, ◌≤◌, true, false, List, [], ◌∷◌, ◌++◌, length, is_ok, Ok, Err, Result, sym, refl, ap, ◌∙◌, subst, ⊎_elim, append_assoc, arith}
+use Rattle.std.proofs.Common.{◌≡◌, ℕ, suc, ◌+◌, ◌<◌, ◌≤◌, true, false, List, [], ◌∷◌, ◌++◌, length, is_ok, Ok, Err, Result, Some, Option, sym, refl, ap, ◌∙◌, subst, ⊎_elim, append_assoc, arith}
 use Rattle.std.specs.List.{remove}
 use Rattle.std.proofs.lemmas.List.Edits.{length-remove}
 use Rattle.std.proofs.lemmas.List.{length-append, get_or_append_left}
 use Rattle.std.proofs.lemmas.Bool.{cond-true, cond-false, lt-ltb, cases_lt, both_ways}
 use Rattle.layout.specs.declared.refusal.Refusal.{Refusal}
 use Rattle.device.specs.declared.types.Write.{Write}
-use Rattle.device.specs.Meaning.{Meaning, Lands, waits, apart, inside, landed, submit_answer, submitted}
+use Rattle.device.specs.Meaning.{Meaning, Lands, Collected, waits, apart, inside, landed, submit_answer, submitted}
 use Rattle.device.proofs.Waits.{waits_left, waits_removed, apart_removed, apart_push, apart_middle, inside_removed, inside_right, inside_first, inside_push, removed_front}
 use Rattle.staging.specs.Staged.{Staged, above, deeper}
 
 -- a write that passes each check is taken
-accepted : (d : Meaning) (b : ℕ) → b < d.size → waits d.waiting b ≡ false → length d.waiting < d.depth → submit_answer d b ≡ Ok tt
+pub accepted : (d : Meaning) (b : ℕ) → b < d.size → waits d.waiting b ≡ false → length d.waiting < d.depth → submit_answer d b ≡ Ok tt
 accepted d b h n l =
     cond-true _ _ _ (lt-ltb b d.size h) ∙ cond-false _ _ _ n ∙ cond-true _ _ _ (lt-ltb (length d.waiting) d.depth l)
 
@@ -42,6 +42,10 @@ queued w (Ok u) s a e nay h n = absurd (both_ways true nay refl)
 queued {d} {d'} {room} {queue} w (Err x) s a e nay h n =
     subst (λ m. Staged m room (queue ++ w ∷ [])) (sym e)
     (joined d room queue w s (full d w.block x h (waits_left d.waiting queue w.block n) a) h n)
+
+-- the block that the device below tells is that of a write that has landed there
+pub told_lands : {d mid : Meaning} {b : ℕ} {told : Option ℕ} → Collected d told mid → told ≡ Some b → Lands d b mid
+told_lands {d} {mid} c is = subst (λ o. Collected d o mid) is c
 
 -- what lands below leaves the whole list from the same place
 pub landed_above : {d mid : Meaning} {b : ℕ} {queue rest : List Write} → queue ≡ rest → Lands d b mid → Lands (above queue d) b (above rest mid)

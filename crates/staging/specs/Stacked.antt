@@ -31,10 +31,9 @@ module _ {D : Type 0} (g : Ghosts D) where
   abbrev pub depth_of : Staging D g → ℕ
   depth_of s = deeper (g.depth s.inner)
 
--- a staging device keeps what every device keeps
-pub staged_kept : {D : Type 0} (g : Ghosts D) → ((d : D) → Kept (meaning g d)) → (s : Staging D g) → Kept (means (medium_of g) (waiting_of g) (size_of g) (depth_of g) s)
-staged_kept g kept s =
-    let low = kept s.inner in
+-- a staging device keeps what every device keeps, where the device below does
+pub staged_kept : {D : Type 0} (g : Ghosts D) (s : Staging D g) → Kept (meaning g s.inner) → Kept (means (medium_of g) (waiting_of g) (size_of g) (depth_of g) s)
+staged_kept g s low =
     let long = length-append (g.waiting s.inner) s.queue.items in
     record {
       long = low.long;

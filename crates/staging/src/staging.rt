@@ -1,10 +1,11 @@
 // How a staging device works: the device below is filled first, and refilled after each write that lands.
 ghost use Rattle.std.specs.Prelude.{◌≡◌, MatchResult};
+ghost use Rattle.device.specs.Meaning.{waits};
 ghost use Rattle.staging.specs.Stacked.{Fresh, depth_of, medium_of, size_of, staged_kept, waiting_of};
 
 use crate::types::Staging;
 use blocks::Block;
-use device::{Device, Write};
+use device::{Device, Write, is_among};
 use layout::Refusal;
 use std::alloc::Global;
 use std::collections::VecDeque;
@@ -26,6 +27,17 @@ impl<D: Device> Staging<D> {
         };
         Ok(Staging { inner, queue, room })
     }
+
+    // Whether a write of this block waits in the queue, which is mostly empty.
+    fn is_queued(&self, block: usize) -> bool
+        ensures { result ≡ waits self.now.queue.items block }
+    {
+        if self.queue.is_empty() {
+            return false;
+        }
+        let (older, newer) = self.queue.as_slices();
+        is_among(older, block) | is_among(newer, block)
+    }
 }
 
 impl<D: Device> Device for Staging<D> {
@@ -46,8 +58,7 @@ impl<D: Device> Device for Staging<D> {
     }
 
     fn is_waiting(&self, block: usize) -> bool {
-        // No plainer by `is_among`: a deque is no slice, and over any iterator its contract would be longer than this line.
-        self.inner.is_waiting(block) || self.queue.iter().any(|w| w.block == block)
+        self.inner.is_waiting(block) || self.is_queued(block)
     }
 
     fn submit(&mut self, write: Write) -> Result<(), Refusal> {
@@ -79,5 +90,5 @@ impl<D: Device> Device for Staging<D> {
         self.inner.read(block)
     }
 
-    ghost kept = { staged_kept _ D.kept };
+    ghost kept = { λ s. staged_kept _ s (D.kept s.inner) };
 }

@@ -15,5 +15,5 @@ pub struct Staging<D: Device> {
     pub(crate) room: usize,
     ghost fits: { deque_len queue ≤ room },
     ghost reserved: { room ≤ deque_capacity queue },
-    ghost staged: { Staged (means D.medium D.waiting D.size D.depth inner) room queue.items },
+    pub ghost staged: { Staged (means D.medium D.waiting D.size D.depth inner) room queue.items },
 }

@@ -1,9 +1,7 @@
-use Rattle.std.proofs.Common.{◌==◌, ◌||◌, sym, ap, ◌∙◌, rules, tests}
+use Rattle.std.proofs.Common.{◌≡◌, ◌||◌, ◌++◌, false, sym, ap, ◌∙◌, arith}
 use Rattle.std.proofs.lemmas.Bool.{or_left}
-use Rattle.std.proofs.lemmas.Iterator.Consumers.{YieldsList-from_deque}
-use Rattle.std.proofs.lemmas.Iterator.Search.{any_from_yields_List}
 use Rattle.device.specs.Meaning.{waits}
-use Rattle.device.proofs.Waits.{waits-append, waits_any}
+use Rattle.device.proofs.Waits.{waits-append}
 use Rattle.staging.proofs.staging.StagingDevice.is_waiting.Goals as goal
 
 pub returns-then-is_waiting : goal.returns-then-is_waiting
@@ -16,6 +14,6 @@ returns-else-is_waiting g c =
     let s = c.args.self.now in
     let b = c.args.block in
     let queue = s.queue.items in
-    any_from_yields_List (λ w. w.block == b) _ _ _ c.any.ensures.ran (YieldsList-from_deque queue c.iter.ensures.rest) (λ x b q k. search (rules, tests))
-    ∙ waits_any queue b
-    ∙ sym (waits-append (g.D.Device.waiting s.inner) queue b ∙ ap (λ t. t || waits queue b) (sym c.if-is_waiting.ensures))
+    let low = g.D.Device.waiting s.inner in
+    let whole : waits (low ++ queue) b ≡ (false || waits queue b) = waits-append low queue b ∙ ap (λ t. t || waits queue b) (sym c.if-is_waiting.ensures) in
+    grind (arith, whole)
